@@ -1,0 +1,4 @@
+pub mod Json
+pub mod Names
+pub mod Forms
+pub mod Rows
