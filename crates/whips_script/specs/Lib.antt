@@ -2,3 +2,4 @@ pub mod Json
 pub mod Names
 pub mod Forms
 pub mod Rows
+pub mod Relations

@@ -1,5 +1,6 @@
 -- Names of sources, relations, columns and views.
-use Rattle.std.specs.Prelude.{ℕ, ◌&&◌, ◌||◌, ◌==◌, ◌++◌, Bool, true, false, not, List, [], ◌∷◌, length, nat_le, nat_lt, Option, option_and_then, position}
+use Rattle.std.specs.Prelude.{ℕ, ◌&&◌, ◌||◌, ◌==◌, ◌++◌, Bool, true, false, not, List, [], ◌∷◌, length, nat_le, nat_lt, suc, Option, Some, None, option_and_then, if◌then◌else◌}
+use Rattle.std.specs.Option.{option_map}
 use Rattle.std.specs.List.{list_all, list_any}
 use Rattle.std.specs.Str.{bytes_eq}
 use Rattle.serde_json.specs.Data.{Data}
@@ -33,9 +34,14 @@ abbrev pub are_distinct_places : List ℕ → Bool
 are_distinct_places [] = true
 are_distinct_places (place ∷ places) = not (list_any (λ p. p == place) places) && are_distinct_places places
 
+-- The place of the text among these names, from 0.
+abbrev pub place_of : List Text → Text → Option ℕ
+place_of [] text = None
+place_of (name ∷ names) text = if bytes_eq name text then Some 0 else option_map suc (place_of names text)
+
 -- The place of the name that a JSON text is, among these.
 abbrev pub place_in : List Text → Data → Option ℕ
-place_in names d = option_and_then (λ s. position (λ n. bytes_eq n s) names) (as_str d)
+place_in names d = option_and_then (place_of names) (as_str d)
 
 -- A column with its relation, as `relation.column`.
 abbrev pub qualified : Text → Text → Text

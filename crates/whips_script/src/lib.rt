@@ -2,6 +2,7 @@
 #![tactic(auto)]
 
 mod json;
+mod relation;
 mod rows;
 mod text;
 
