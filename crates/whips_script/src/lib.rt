@@ -4,6 +4,7 @@
 mod json;
 mod relation;
 mod rows;
+mod source;
 mod text;
 
 use std::alloc::{AllocError, AllocFailed};
