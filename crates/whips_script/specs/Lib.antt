@@ -3,3 +3,4 @@ pub mod Names
 pub mod Forms
 pub mod Rows
 pub mod Relations
+pub mod Script

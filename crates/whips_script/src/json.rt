@@ -40,12 +40,22 @@ pub(crate) fn member<'a>(value: &'a Value, name: &str) -> Result<&'a Value, Read
 }
 
 /// The elements of a list.
+pub(crate) fn list_of<'a>(value: &'a Value) -> Option<&'a [Value]>
+    ensures { option_map (λ vs. map view vs.now) result ≡ elements (view value.now) }
+{
+    match value.as_array() {
+        Some(items) => Some(items.as_slice()),
+        None => None,
+    }
+}
+
+/// The elements of a list, or the refusal of what is none.
 pub(crate) fn elements<'a>(value: &'a Value) -> Result<&'a [Value], ReadErr>
     ensures ok { IfOk result (λ vs. elements (view value.now) ≡ Some (map view vs.now)) }
     ensures refused { IfErr result (λ e. e ≢ ReadErr.NoMemory → elements (view value.now) ≡ None) }
 {
-    match value.as_array() {
-        Some(items) => Ok(items.as_slice()),
+    match list_of(value) {
+        Some(items) => Ok(items),
         None => Err(ReadErr::Unbuilt),
     }
 }

@@ -4,7 +4,7 @@ use Rattle.serde_json.specs.View.{view}
 use Rattle.whips_script.specs.Json.{each}
 use Rattle.whips_script.specs.Names.{place_in}
 use Rattle.whips_script.proofs.Each.{read_on}
-use Rattle.whips_script.proofs.relation.read_key.Given as goal
+use Rattle.whips_script.proofs.relation.read_places.Given as goal
 
 abbrev pub invariant-loop-item : goal.invariant-loop-item
 invariant-loop-item l = record {
