@@ -7,6 +7,7 @@ mod db;
 mod error;
 mod parts;
 mod view;
+mod walk;
 
 pub use db::Db;
 pub use error::ViewErr;
