@@ -1,0 +1,5 @@
+pub mod KeyedViews
+pub mod Edits
+pub mod Partials
+pub mod Places
+pub mod Laws

@@ -1,0 +1,6 @@
+pub mod Members
+pub mod Tuples
+pub mod Search
+pub mod Views
+pub mod Relation
+pub mod Keys
