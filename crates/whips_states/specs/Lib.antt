@@ -1,0 +1,4 @@
+pub mod States
+pub mod Concerns
+pub mod Net
+pub mod Laws
