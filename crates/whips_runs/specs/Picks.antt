@@ -6,17 +6,9 @@ use Rattle.whips_flow.specs.Facts.{Facts, view_places}
 use Rattle.whips_flow.specs.Progress.{pipeline_events}
 use Rattle.whips_flow.specs.declared.event.Event.{Event}
 use Rattle.whips_flow.specs.declared.event.Event.TheVariants.{SessionOpen, SessionScan, SessionFetch, SessionClose}
+use Rattle.whips_pick.specs.Picks.{next_state, picked}
 use Rattle.whips_runs.specs.Records.{RunRecord}
 use Rattle.whips_runs.specs.World.{World, is_allowed, after_event, start_world, finished_world}
-
--- ---- the picker: a linear congruential generator of 32 bits with the constants of Numerical Recipes, of which the upper half is used; own
-
-abbrev pub next_state : ℕ → ℕ
-next_state state = (state * 1664525 + 1013904223) % 4294967296
-
--- the number below count that a picker answers which is in this new state
-abbrev pub picked_number : (count state : ℕ) → ℕ
-picked_number count state = (state / 65536) % count
 
 -- ---- the choices of a turn
 
@@ -36,7 +28,7 @@ abbrev pub choices : Facts → World → List Event
 choices f w = filter (λ e. is_allowed f w e && not (is_scan e && nat_le 1000 w.scan_count)) (all_events f)
 
 abbrev pub picked_choice : ℕ → List Event → Option Event
-picked_choice state es = slice_get es (picked_number (length es) state)
+picked_choice state es = slice_get es (picked (length es) state)
 
 -- the event of a turn, by the picker's new state; none once the run is full or nothing may be picked
 abbrev pub picked_event : Facts → ℕ → World → Option Event
