@@ -73,18 +73,18 @@ turn_step f k (SessionClose s) w h = unless w.is_full w (cond (is_allowed f w (S
 -- an enabled event moves the pipeline, or ends the run
 pub record Moved (f : Facts) (e : Event) (w : World) : Type 0 where
   pub pipeline : (after_event f e w).pipeline ≡ next f w.pipeline e
-  pub shortage : (after_event f e w).is_full ≡ w.is_full
+  pub is_full : (after_event f e w).is_full ≡ w.is_full
 
 moved : (f : Facts) (e : Event) (w : World) → is_enabled f w.pipeline e ≡ true → shortage_at f w.pipeline e ≡ None → Moved f e w
-moved f (Commit y) w en h = record { pipeline = refl; shortage = refl }
-moved f (Answer y x) w en h = record { pipeline = refl; shortage = refl }
-moved f (Integrate y) w en h = record { pipeline = refl; shortage = refl }
-moved f (Manage x) w en h = record { pipeline = refl; shortage = refl }
-moved f Rel w en h = record { pipeline = refl; shortage = refl }
-moved f (Act x) w en h = record { pipeline = refl; shortage = refl }
-moved f Begin w en h = record { pipeline = pipeline_moves f w Begin h; shortage = full_same f w Begin h }
-moved f Change w en h = record { pipeline = refl; shortage = refl }
-moved f Publish w en h = record { pipeline = refl; shortage = refl }
+moved f (Commit y) w en h = record { pipeline = refl; is_full = refl }
+moved f (Answer y x) w en h = record { pipeline = refl; is_full = refl }
+moved f (Integrate y) w en h = record { pipeline = refl; is_full = refl }
+moved f (Manage x) w en h = record { pipeline = refl; is_full = refl }
+moved f Rel w en h = record { pipeline = refl; is_full = refl }
+moved f (Act x) w en h = record { pipeline = refl; is_full = refl }
+moved f Begin w en h = record { pipeline = pipeline_moves f w Begin h; is_full = full_same f w Begin h }
+moved f Change w en h = record { pipeline = refl; is_full = refl }
+moved f Publish w en h = record { pipeline = refl; is_full = refl }
 moved f (SessionOpen s) w en h = absurd (cc)
 moved f (SessionScan s x) w en h = absurd (cc)
 moved f (SessionFetch s n) w en h = absurd (cc)
@@ -105,7 +105,7 @@ ended f (SessionScan s x) w v h = absurd (cc)
 ended f (SessionFetch s n) w v h = absurd (cc)
 ended f (SessionClose s) w v h = absurd (cc)
 
-found_passes : {A : Type 0} (test : A → Bool) (xs : List A) (a : A) → find test xs ≡ Some a → test a ≡ true
+pub found_passes : {A : Type 0} (test : A → Bool) (xs : List A) (a : A) → find test xs ≡ Some a → test a ≡ true
 found_passes test [] a h = absurd (cc)
 found_passes test (x ∷ xs) a h = elim (test x) as (λ b. test x ≡ b → cond b (Some x) (find test xs) ≡ Some a → test a ≡ true) [
   | true ↦ λ e g. let xa : x ≡ a = cc in subst (λ z. test z ≡ true) xa e

@@ -3,6 +3,7 @@
 #![tactic(auto)]
 
 ghost use Rattle.whips_run_laws.specs.Runs.{TurnsAreSteps, RunsEnd};
+ghost use Rattle.whips_run_laws.specs.Reached.{ListedRunsAreReached, PickedRunsAreReached};
 
 /// A turn moves the pipeline by its event alone: sessions leave it as it is.
 pub fn turns_are_steps()
@@ -13,4 +14,14 @@ pub fn turns_are_steps()
 /// has too few slots.
 pub fn runs_end()
     ensures { RunsEnd }
+{}
+
+/// The pipeline at the end of a listed run, its drain included, is the one after some list of events.
+pub fn listed_runs_are_reached()
+    ensures { ListedRunsAreReached }
+{}
+
+/// The pipeline at the end of a picked run, its drain included, is the one after some list of events.
+pub fn picked_runs_are_reached()
+    ensures { PickedRunsAreReached }
 {}
