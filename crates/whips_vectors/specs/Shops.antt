@@ -3,6 +3,7 @@ use Rattle.std.specs.Prelude.{ℕ, zero, suc, List, [], ◌∷◌}
 use Rattle.whips_model.specs.Tuples.{Codes}
 use Rattle.whips_model.specs.Relation.{Table}
 use Rattle.whips_model.specs.declared.Cmp.TheVariants.{Ge}
+use Rattle.whips_model.specs.declared.Kind.{Kind}
 use Rattle.whips_model.specs.declared.Kind.TheVariants.{Number, Text}
 use Rattle.whips_rel.specs.declared.update.Update.TheVariants.{Insert, Delete}
 use Rattle.whips_flow.specs.declared.event.Event.{Event}
@@ -14,6 +15,10 @@ use Rattle.whips_vectors.specs.Scripts.{row2, row3, row4, table2, at, with_slots
 
 -- ---- the shop: texts are coded by their place in the sorted list Ada, Ben, jam, tea
 
+-- two columns of these kinds
+abbrev pub table_of : Kind → Kind → List Codes → Table
+table_of first second rows = record { columns = record { kinds = first ∷ second ∷ []; key = 0 ∷ [] }; rows = rows }
+
 -- order number, customer, item, quantity
 abbrev pub orders : List Codes → Table
 orders rows = record { columns = record { kinds = Number ∷ Number ∷ Text ∷ Number ∷ []; key = 0 ∷ [] }; rows = rows }
@@ -21,7 +26,7 @@ orders rows = record { columns = record { kinds = Number ∷ Number ∷ Text ∷
 -- customers, orders at source 0; items, prices at source 1
 abbrev pub shop : Script
 shop = record {
-  initial = table2 (row2 1 0 ∷ row2 2 1 ∷ []) ∷ orders (row4 10 1 3 3 ∷ row4 11 2 2 1 ∷ []) ∷ table2 (row2 2 4 ∷ row2 3 2 ∷ []) ∷ table2 (row2 2 350 ∷ row2 3 420 ∷ []) ∷ [];
+  initial = table_of Number Text (row2 1 0 ∷ row2 2 1 ∷ []) ∷ orders (row4 10 1 3 3 ∷ row4 11 2 2 1 ∷ []) ∷ table_of Text Number (row2 2 4 ∷ row2 3 2 ∷ []) ∷ table_of Text Number (row2 2 350 ∷ row2 3 420 ∷ []) ∷ [];
   work = (single (Insert 1 (row4 12 1 2 6)) ∷ single (Delete 1 (row4 11 2 2 1)) ∷ []) ∷ (single (Delete 2 (row2 3 2)) ∷ single (Insert 2 (row2 3 9)) ∷ []) ∷ [];
   views =
       with_slots 1024 (record { relations = 1 ∷ 2 ∷ []; homes = 0 ∷ 1 ∷ []; equal = (at 0 2, at 1 0) ∷ []; conds = []; out = at 0 0 ∷ at 1 0 ∷ at 1 1 ∷ at 0 3 ∷ [] })
