@@ -10,6 +10,9 @@ mod schema;
 mod tuple;
 mod update;
 
+#[cfg(test)]
+mod tests;
+
 pub use memory::NoMemory;
 pub use relation::{Absent, InsertErr, Relation, Rows};
 pub use schema::{Kinds, Places, Schema};

@@ -1,0 +1,6 @@
+pub mod Json
+pub mod Names
+pub mod Forms
+pub mod Rows
+pub mod Relations
+pub mod Script

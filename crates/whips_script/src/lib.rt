@@ -1,0 +1,65 @@
+//! Reads a script.
+#![tactic(auto)]
+
+mod json;
+mod relation;
+mod rows;
+mod source;
+mod text;
+mod view;
+
+use std::alloc::{AllocError, AllocFailed};
+use whips_rel::NoMemory;
+
+pub use text::Text;
+
+/// Why a text isn't a script.
+#[derive(Clone, Copy, Debug, PartialEq, Eq)]
+pub enum Refusal {
+    /// It has no reading as JSON.
+    Syntax,
+    /// It isn't of a form that is built, or is wrong in another way.
+    Unbuilt,
+}
+
+/// Why a value wasn't read.
+#[derive(Clone, Copy, Debug, PartialEq, Eq)]
+pub enum ReadErr {
+    /// It isn't of a form that is built.
+    Unbuilt,
+    /// There was no memory for it.
+    NoMemory,
+}
+
+impl From<AllocError> for ReadErr {
+    ghost use Rattle.std.specs.Prelude.{◌≡◌};
+    ghost use Rattle.whips_script.specs.declared.ReadErr.TheVariants.{NoMemory as OutOfMemory};
+
+    ghost from_gives = { λ _ e. e ≡ OutOfMemory };
+
+    fn from(_error: AllocError) -> ReadErr {
+        ReadErr::NoMemory
+    }
+}
+
+impl<T: Drop> From<AllocFailed<T>> for ReadErr {
+    ghost use Rattle.std.specs.Prelude.{◌≡◌};
+    ghost use Rattle.whips_script.specs.declared.ReadErr.TheVariants.{NoMemory as OutOfMemory};
+
+    ghost from_gives = { λ _ e. e ≡ OutOfMemory };
+
+    fn from(_error: AllocFailed<T>) -> ReadErr {
+        ReadErr::NoMemory
+    }
+}
+
+impl From<NoMemory> for ReadErr {
+    ghost use Rattle.std.specs.Prelude.{◌≡◌};
+    ghost use Rattle.whips_script.specs.declared.ReadErr.TheVariants.{NoMemory as OutOfMemory};
+
+    ghost from_gives = { λ _ e. e ≡ OutOfMemory };
+
+    fn from(_error: NoMemory) -> ReadErr {
+        ReadErr::NoMemory
+    }
+}

@@ -1,0 +1,55 @@
+//! A source with its relation and its updates.
+ghost use Rattle.std.specs.Prelude.{◌≡◌, ◌≢◌, ◌≤◌, IfOk, IfErr, Some, None, length};
+ghost use Rattle.serde_json.specs.View.{view};
+ghost use Rattle.whips_script.specs.Relations.{source_in};
+ghost use Rattle.whips_script.specs.Rows.{rows_after_all};
+
+use crate::json::{ObjectForm, is_object_of, member};
+use crate::relation::{RelationForm, read_only_relation};
+use crate::rows::read_updates;
+use crate::{ReadErr, Text};
+use serde_json::Value;
+use std::alloc::Global;
+use std::marker::Model;
+use whips_rel::{Relation, Update};
+
+/// A source with its relation, as it was at first and after all updates.
+#[derive(Drop)]
+pub(crate) struct SourceForm {
+    pub(crate) name: Text,
+    pub(crate) relation: RelationForm,
+    pub(crate) updates: Vec<Update>,
+    pub(crate) last: Relation,
+}
+
+impl Model for SourceForm {
+    ghost use Rattle.std.specs.Prelude.{◌≡◌};
+    ghost use Rattle.whips_script.specs.Relations.{SourceForm as SourceData};
+    ghost use Rattle.whips_script.specs.Rows.{rows_after_all};
+
+    ghost Value = { SourceData };
+
+    ghost view = { λ s. record { name = s.name; relation = s.relation; updates = s.updates.items } };
+
+    ghost invariant = { λ s. s.last ≡ record s.relation.table { rows = rows_after_all s.relation.table.columns.key s.updates.items s.relation.table.rows } };
+}
+
+/// A source with one relation.
+fn read_source(alloc: Global, value: &Value) -> Result<SourceForm, ReadErr>
+    ensures ok { IfOk result (λ s. (source_in (view value.now) ≡ Some s) × (length s.relation.columns ≤ 8)) }
+    ensures refused { IfErr result (λ e. e ≢ ReadErr.NoMemory → source_in (view value.now) ≡ None) }
+{
+    if !is_object_of(value, ObjectForm::Source) {
+        return Err(ReadErr::Unbuilt);
+    }
+    let name = Text::read_name(alloc, member(value, "name")?)?;
+    let relation = read_only_relation(alloc, member(value, "relations")?)?;
+    let mut last = relation.relation.copy()?;
+    let updates = read_updates(alloc, &mut last, &relation.name, value.get("updates"))?;
+    Ok(SourceForm {
+        name,
+        relation,
+        updates,
+        last,
+    })
+}

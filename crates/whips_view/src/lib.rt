@@ -1,0 +1,16 @@
+//! Views over several relations: which parts make a view, its value on relations, which updates concern it, and what a
+//! transaction gives it and takes from it.
+#![tactic(auto)]
+
+mod checks;
+mod db;
+mod error;
+mod parts;
+mod view;
+mod walk;
+
+pub use db::Db;
+pub use error::ViewErr;
+pub use parts::{Conds, Equalities, Outs, ViewParts};
+pub use view::ViewDef;
+pub use whips_model::{Cmp, ColRef, Cond, Kind};
