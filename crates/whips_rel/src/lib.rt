@@ -7,11 +7,10 @@
 mod memory;
 mod relation;
 mod schema;
-mod tuple;
-mod update;
-
 #[cfg(test)]
 mod tests;
+mod tuple;
+mod update;
 
 pub use memory::NoMemory;
 pub use relation::{Absent, InsertErr, Relation, Rows};
