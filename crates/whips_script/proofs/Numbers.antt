@@ -7,7 +7,8 @@ use Rattle.std.specs.Str.{bytes_eq}
 use Rattle.serde_json.specs.Data.{Data}
 use Rattle.serde_json.specs.Find.{as_str}
 use Rattle.whips_model.specs.Tuples.{Codes, Columns, at_columns, put_row, without_key}
-use Rattle.whips_model.specs.Relation.{Table}
+use Rattle.whips_model.specs.Relation.{Table, value_of}
+use Rattle.whips_model.specs.Views.{ViewData}
 use Rattle.whips_rel.specs.declared.update.Update.{Update}
 use Rattle.whips_rel.specs.declared.update.Update.TheVariants.{Insert, Delete}
 use Rattle.whips_rel.specs.Updates.{relation_of}
@@ -103,3 +104,8 @@ take_whole (x ∷ xs) = ap (λ l. x ∷ l) (take_whole xs)
 pub final_is : (t last : Table) (us : List Update) → AreOfOne us → last ≡ record { columns = t.columns; rows = rows_after_all t.columns.key us t.rows }
     → state_at (t ∷ []) (transactions_of us ∷ []) (length (transactions_of us) ∷ []) ≡ last ∷ []
 final_is t last us h e = ap (λ ts. all_applied (t ∷ []) ts) (take_whole (transactions_of us)) ∙ all_updated t us h ∙ ap (λ l. l ∷ []) (sym e)
+
+-- so the rows of a view on that relation alone are those of its value on the final state
+pub final_value : (parts : ViewData) (t last : Table) (us : List Update) (db : List Table) (rows : List Codes) → AreOfOne us → last ≡ record { columns = t.columns; rows = rows_after_all t.columns.key us t.rows }
+    → db ≡ last ∷ [] → rows ≡ value_of parts db → value_of parts (state_at (t ∷ []) (transactions_of us ∷ []) (length (transactions_of us) ∷ [])) ≡ rows
+final_value parts t last us db rows h e there is = ap (value_of parts) (final_is t last us h e ∙ sym there) ∙ sym is

@@ -8,7 +8,7 @@ ghost use Rattle.whips_script.specs.Json.{each};
 ghost use Rattle.whips_script.specs.Names.{place_in, place_of, qualified};
 ghost use Rattle.whips_script.specs.Relations.{column_in, columns_in, key_in, relation_in, only_relation_in};
 
-use crate::json::{ObjectForm, elements, elements_within, is_object_of, is_text, member};
+use crate::json::{ObjectForm, elements, elements_within, is_object_of, is_text, member, only_element};
 use crate::rows::read_rows;
 use crate::text::{are_distinct, are_distinct_places};
 use crate::{ReadErr, Text};
@@ -192,8 +192,5 @@ pub(crate) fn read_only_relation(alloc: Global, value: &Value) -> Result<Relatio
     ensures ok { IfOk result (λ r. (only_relation_in (view value.now) ≡ Some r) × (length r.columns ≤ 8)) }
     ensures refused { IfErr result (λ e. e ≢ ReadErr.NoMemory → only_relation_in (view value.now) ≡ None) }
 {
-    match elements(value)? {
-        [only] => read_relation(alloc, only),
-        _ => Err(ReadErr::Unbuilt),
-    }
+    read_relation(alloc, only_element(value)?)
 }

@@ -67,7 +67,8 @@ impl Script {
     {
         let last = self.source.last().copy()?;
         let db = Db::of(vec![in alloc; last]?);
-        self.view.value(&db)
+        let rows = self.view.value(&db)?;
+        Ok(rows)
     }
 }
 

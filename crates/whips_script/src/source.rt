@@ -7,7 +7,7 @@ ghost use Rattle.whips_script.specs.Relations.{source_in};
 ghost use Rattle.whips_script.specs.Script.{only_source_in};
 ghost use Rattle.whips_script.specs.Rows.{rows_after_all};
 
-use crate::json::{ObjectForm, elements, is_object_of, member};
+use crate::json::{ObjectForm, is_object_of, member, only_element};
 use crate::relation::{RelationForm, read_only_relation};
 use crate::rows::read_updates;
 use crate::{ReadErr, Text};
@@ -96,8 +96,5 @@ pub(crate) fn read_only_source(alloc: Global, value: &Value) -> Result<SourceFor
     ensures ok { IfOk result (λ s. (only_source_in (view value.now) ≡ Some s) × (length s.relation.columns ≤ 8)) }
     ensures refused { IfErr result (λ e. e ≢ ReadErr.NoMemory → only_source_in (view value.now) ≡ None) }
 {
-    match elements(value)? {
-        [only] => read_source(alloc, only),
-        _ => Err(ReadErr::Unbuilt),
-    }
+    read_source(alloc, only_element(value)?)
 }

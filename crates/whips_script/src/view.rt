@@ -8,7 +8,7 @@ ghost use Rattle.whips_script.specs.Names.{place_in};
 ghost use Rattle.whips_script.specs.Script.{one_relation_view, names_relation, view_in, only_view_in};
 
 use crate::json::{
-    ObjectForm, elements, elements_within, is_object_of, is_text, list_of, member,
+    ObjectForm, elements_within, is_object_of, is_text, list_of, member, only_element,
 };
 use crate::relation::{RelationForm, read_places};
 use crate::{ReadErr, Text};
@@ -106,8 +106,5 @@ pub(crate) fn read_only_view(
     ensures ok { IfOk result (λ v. (only_view_in relation.now (view value.now) ≡ Some v) × (v.parts.relations ≡ 0 ∷ [])) }
     ensures refused { IfErr result (λ e. e ≢ ReadErr.NoMemory → only_view_in relation.now (view value.now) ≡ None) }
 {
-    match elements(value)? {
-        [only] => read_view(alloc, relation, only),
-        _ => Err(ReadErr::Unbuilt),
-    }
+    read_view(alloc, relation, only_element(value)?)
 }
