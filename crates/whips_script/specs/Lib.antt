@@ -4,3 +4,4 @@ pub mod Forms
 pub mod Rows
 pub mod Relations
 pub mod Script
+pub mod Refusals

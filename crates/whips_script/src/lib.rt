@@ -4,6 +4,7 @@
 mod json;
 mod relation;
 mod rows;
+mod script;
 mod source;
 mod text;
 mod view;
@@ -11,6 +12,7 @@ mod view;
 use std::alloc::{AllocError, AllocFailed};
 use whips_rel::NoMemory;
 
+pub use script::{Script, ScriptErr, read_script};
 pub use text::Text;
 
 /// Why a text isn't a script.

@@ -42,6 +42,13 @@ impl RelationForm {
         &self.name
     }
 
+    /// The relation with its initial rows.
+    pub(crate) fn relation(&self) -> &Relation
+        ensures { result.now ≡ self.now.table }
+    {
+        &self.relation
+    }
+
     /// The columns, each as `relation.column`.
     pub(crate) fn qualified_columns(&self, alloc: Global) -> Result<Vec<Text>, ReadErr>
         ensures ok { IfOk result (λ v. v.items ≡ map (qualified self.now.name) self.now.columns) }

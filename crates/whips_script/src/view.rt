@@ -79,7 +79,7 @@ fn names_relation(name: &Text, value: &Value) -> bool
 /// A view of this relation.
 fn read_view(alloc: Global, relation: &RelationForm, value: &Value) -> Result<ViewForm, ReadErr>
     requires { length relation.now.columns ≤ 8 }
-    ensures ok { IfOk result (λ v. view_in relation.now (view value.now) ≡ Some v) }
+    ensures ok { IfOk result (λ v. (view_in relation.now (view value.now) ≡ Some v) × (v.parts.relations ≡ 0 ∷ [])) }
     ensures refused { IfErr result (λ e. e ≢ ReadErr.NoMemory → view_in relation.now (view value.now) ≡ None) }
 {
     if !is_object_of(value, ObjectForm::View) {
@@ -103,7 +103,7 @@ pub(crate) fn read_only_view(
     value: &Value,
 ) -> Result<ViewForm, ReadErr>
     requires { length relation.now.columns ≤ 8 }
-    ensures ok { IfOk result (λ v. only_view_in relation.now (view value.now) ≡ Some v) }
+    ensures ok { IfOk result (λ v. (only_view_in relation.now (view value.now) ≡ Some v) × (v.parts.relations ≡ 0 ∷ [])) }
     ensures refused { IfErr result (λ e. e ≢ ReadErr.NoMemory → only_view_in relation.now (view value.now) ≡ None) }
 {
     match elements(value)? {
