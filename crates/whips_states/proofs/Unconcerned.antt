@@ -160,7 +160,7 @@ module _ (view : ViewData) (r : ℕ) (t : Codes) (db others : List Table)
   value_same : meets_from view 0 view.relations r t ≡ false → value_of view others ≡ value_of view db
   value_same e = ap (map (out_row view)) (value_kept view (map (table_rows others) view.relations) (map (table_rows db) view.relations) (parts_kept 0 view.relations e))
 
-update_keeps : (view : ViewData) (db : List Table) (u : Update) → AreSoundTables db → IsValid db u → concerns_update view u ≡ false → value_of view (updated db u) ≡ value_of view db
+pub update_keeps : (view : ViewData) (db : List Table) (u : Update) → AreSoundTables db → IsValid db u → concerns_update view u ≡ false → value_of view (updated db u) ≡ value_of view db
 update_keeps view db (Insert r t) sound v e = value_same view r t db (changed_at r (with_row t) db) (λ s ne. changed_other (with_row t) db r s ne)
     (λ part fails.
     ap (λ o. filter (meets_part view part) (rows_in o)) (changed_same (with_row t) db r v.table v.there)
