@@ -19,50 +19,80 @@ use Rattle.whips_cut_laws.specs.Cuts.{Advances, AdvanceFrom, AllAdvance, commit_
 use Rattle.whips_cut_laws.proofs.Places.{some_same, EachAt, each_changed, each_at, each_kept, length_changed, index_here, index_other, cut_after_append, cut_after_up, cut_after_length, Climbs, climbs_append, climbs_front, climbs_back, AllAbove, Rising}
 use Rattle.whips_cut_laws.proofs.Lined.{joined, AllUpTo, IsFilled, AllFilled, InLine, Lined, settled_lined}
 
--- the transactions among the messages come in order, above low and up to done
-abbrev pub Ascends : ℕ → List SourceMessage → ℕ → Type 0
-Ascends low [] done = low ≤ done
-Ascends low (sent_transaction k ∷ ms) done = (low < k) × Ascends k ms done
-Ascends low (sent_answer x t ∷ ms) done = Ascends low ms done
+-- no view is concerned by the transaction of source y at place k
+abbrev pub IsUnconcerned : Facts → ℕ → ℕ → Type 0
+IsUnconcerned f y k = list_any (λ x. f.concerns y k x) (view_places f) ≡ false
 
-ascends_down : (low lower : ℕ) (ms : List SourceMessage) (done : ℕ) → lower ≤ low → Ascends low ms done → Ascends lower ms done
-ascends_down low lower [] done le h = omega arith
-ascends_down low lower (sent_transaction k ∷ ms) done le h = (omega (arith, h.0), h.1)
-ascends_down low lower (sent_answer x t ∷ ms) done le h = ascends_down low lower ms done le h
+-- U holds of each place above low and below high
+abbrev pub AllBetween : (ℕ → Type 0) → ℕ → ℕ → Type 0
+AllBetween U low high = (k : ℕ) → low < k → k < high → U k
 
-ascends_behind : (low : ℕ) (ms : List SourceMessage) (done : ℕ) → Ascends low ms done → Ascends low (without_front ms) done
-ascends_behind low [] done h = h
-ascends_behind low (sent_transaction k ∷ ms) done h = ascends_down k low ms done (omega (arith, h.0)) h.1
-ascends_behind low (sent_answer x t ∷ ms) done h = h
+-- the transactions among the messages come in order, above low and up to done, and U holds of the places between
+abbrev pub Ascends : (ℕ → Type 0) → ℕ → List SourceMessage → ℕ → Type 0
+Ascends U low [] done = (low ≤ done) × AllBetween U low (suc done)
+Ascends U low (sent_transaction k ∷ ms) done = (low < k) × AllBetween U low k × Ascends U k ms done
+Ascends U low (sent_answer x t ∷ ms) done = Ascends U low ms done
 
-ascends_sent : (low : ℕ) (ms : List SourceMessage) (done : ℕ) → Ascends low ms done → Ascends low (ms ++ sent_transaction (suc done) ∷ []) (suc done)
-ascends_sent low [] done h = (omega arith, omega arith)
-ascends_sent low (sent_transaction k ∷ ms) done h = (h.0, ascends_sent k ms done h.1)
-ascends_sent low (sent_answer x t ∷ ms) done h = ascends_sent low ms done h
+module _ (U : ℕ → Type 0) where
+  between_join : (low mid high : ℕ) → AllBetween U low (suc mid) → AllBetween U mid high → AllBetween U low high
+  between_join low mid high g h = λ k a b. ⊎_elim (λ lt. h k lt b) (λ le. g k a (omega (arith, le))) (cases_lt mid k)
 
-ascends_answered : (low x : ℕ) (t : QueryStep) (ms : List SourceMessage) (done : ℕ) → Ascends low ms done → Ascends low (ms ++ sent_answer x t ∷ []) done
-ascends_answered low x t [] done h = h
-ascends_answered low x t (sent_transaction k ∷ ms) done h = (h.0, ascends_answered k x t ms done h.1)
-ascends_answered low x t (sent_answer z u ∷ ms) done h = ascends_answered low x t ms done h
+  between_with : (low k : ℕ) → AllBetween U low k → U k → AllBetween U low (suc k)
+  between_with low k g u = λ j a b. ⊎_elim (λ lt. g j a lt) (λ le. let jk : k ≡ j = omega (arith, le, b) in subst U jk u) (cases_lt j k)
 
-ascends_le : (low : ℕ) (ms : List SourceMessage) (done : ℕ) → Ascends low ms done → low ≤ done
-ascends_le low [] done h = h
-ascends_le low (sent_transaction k ∷ ms) done h = omega (arith, h.0, ascends_le k ms done h.1)
-ascends_le low (sent_answer x t ∷ ms) done h = ascends_le low ms done h
+  ascends_down : (low lower : ℕ) (ms : List SourceMessage) (done : ℕ) → lower ≤ low → AllBetween U lower (suc low) → Ascends U low ms done → Ascends U lower ms done
+  ascends_down low lower [] done le g h = (omega (arith, h.0), between_join lower low (suc done) g h.1)
+  ascends_down low lower (sent_transaction k ∷ ms) done le g h = (omega (arith, h.0), between_join lower low k g h.1, h.2)
+  ascends_down low lower (sent_answer x t ∷ ms) done le g h = ascends_down low lower ms done le g h
 
-abbrev pub SendsInOrder : ℕ → List ℕ → ℕ → Source → Type 0
-SendsInOrder width top y s = (y < width) × Ascends (slice_index top y) s.messages s.commit_count
+  ascends_behind_none : (low : ℕ) (ms : List SourceMessage) (done : ℕ) → front ms ≡ None → Ascends U low ms done → Ascends U low (without_front ms) done
+  ascends_behind_none low [] done e h = h
+  ascends_behind_none low (m ∷ ms) done e h = absurd (cc)
+
+  ascends_behind_answer : (low x : ℕ) (t : QueryStep) (ms : List SourceMessage) (done : ℕ) → front ms ≡ Some (sent_answer x t) → Ascends U low ms done → Ascends U low (without_front ms) done
+  ascends_behind_answer low x t [] done e h = absurd (cc)
+  ascends_behind_answer low x t (sent_transaction k ∷ ms) done e h = absurd (cc)
+  ascends_behind_answer low x t (sent_answer z u ∷ ms) done e h = h
+
+  ascends_sent : (low : ℕ) (ms : List SourceMessage) (done : ℕ) → Ascends U low ms done → Ascends U low (ms ++ sent_transaction (suc done) ∷ []) (suc done)
+  ascends_sent low [] done h = (omega (arith, h.0), h.1, (omega arith, λ k a b. absurd (omega (arith, a, b))))
+  ascends_sent low (sent_transaction k ∷ ms) done h = (h.0, h.1, ascends_sent k ms done h.2)
+  ascends_sent low (sent_answer x t ∷ ms) done h = ascends_sent low ms done h
+
+  ascends_answered : (low x : ℕ) (t : QueryStep) (ms : List SourceMessage) (done : ℕ) → Ascends U low ms done → Ascends U low (ms ++ sent_answer x t ∷ []) done
+  ascends_answered low x t [] done h = h
+  ascends_answered low x t (sent_transaction k ∷ ms) done h = (h.0, h.1, ascends_answered k x t ms done h.2)
+  ascends_answered low x t (sent_answer z u ∷ ms) done h = ascends_answered low x t ms done h
+
+  ascends_le : (low : ℕ) (ms : List SourceMessage) (done : ℕ) → Ascends U low ms done → low ≤ done
+  ascends_le low [] done h = h.0
+  ascends_le low (sent_transaction k ∷ ms) done h = omega (arith, h.0, ascends_le k ms done h.2)
+  ascends_le low (sent_answer x t ∷ ms) done h = ascends_le low ms done h
+
+  sent_first : (low : ℕ) (ms : List SourceMessage) (k done : ℕ) → front ms ≡ Some (sent_transaction k) → Ascends U low ms done → (low < k) × AllBetween U low k × Ascends U k (without_front ms) done
+  sent_first low [] k done e h = absurd (cc)
+  sent_first low (sent_transaction j ∷ ms) k done e h = let jk : j ≡ k = cc in subst (λ z. (low < z) × AllBetween U low z × Ascends U z ms done) jk h
+  sent_first low (sent_answer x t ∷ ms) k done e h = absurd (cc)
+
+  -- the first message is a transaction of which U holds
+  ascends_behind_sent : (low : ℕ) (ms : List SourceMessage) (k done : ℕ) → front ms ≡ Some (sent_transaction k) → U k → Ascends U low ms done → Ascends U low (without_front ms) done
+  ascends_behind_sent low ms k done e u h =
+      let first = sent_first low ms k done e h in
+      ascends_down k low (without_front ms) done (omega (arith, first.0)) (between_with low k first.1 u) first.2
+
+abbrev pub SendsInOrder : Facts → ℕ → List ℕ → ℕ → Source → Type 0
+SendsInOrder f width top y s = (y < width) × Ascends (IsUnconcerned f y) (slice_index top y) s.messages s.commit_count
 
 pub record Turns (w : Writer) : Type 0 where
   pub level : w.phase % 2 ≡ 0 → w.target_cut ≡ w.cut
   pub ahead : w.phase % 2 ≡ 1 → Advances w.cut w.target_cut
   pub chain : AllAdvance (w.earlier_cuts ++ w.cut ∷ [])
 
-pub record Orderly (p : Pipeline) : Type 0 where
+pub record Orderly (f : Facts) (p : Pipeline) : Type 0 where
   pub top : List ℕ
   pub line : Lined p.writer.target_cut top (length p.numbering) p.announcements p.merge
   pub width : length p.writer.target_cut ≡ length p.sources
-  pub sends : EachAt (SendsInOrder (length p.writer.target_cut) top) 0 p.sources
+  pub sends : EachAt (SendsInOrder f (length p.writer.target_cut) top) 0 p.sources
   pub turns : Turns p.writer
 
 of_some_is : {A B : Type 0} (o : Option A) (g : A → Option B) (b : B) → option_and_then g o ≡ Some b → (a : A) × (o ≡ Some a) × (g a ≡ Some b)
@@ -76,36 +106,46 @@ front_is (y ∷ xs) x h = ap (λ z. z ∷ xs) (some_same y x h)
 -- ---- events that leave the rows
 
 -- a change of a source that keeps its messages in order
-source_kept : (p : Pipeline) (y : ℕ) (g : Source → Source) → ((low : ℕ) (s : Source) → Ascends low s.messages s.commit_count → Ascends low (g s).messages (g s).commit_count) → Orderly p → Orderly (with_source y g p)
-source_kept p y g keeps h = record {
+source_kept : (f : Facts) (p : Pipeline) (y : ℕ) (g : Source → Source) → ((U : ℕ → Type 0) (low : ℕ) (s : Source) → Ascends U low s.messages s.commit_count → Ascends U low (g s).messages (g s).commit_count) → Orderly f p → Orderly f (with_source y g p)
+source_kept f p y g keeps h = record {
   top = h.top;
   line = h.line;
   width = h.width ∙ sym (length_changed g y p.sources);
-  sends = each_kept (SendsInOrder (length p.writer.target_cut) h.top) g y p.sources (λ j s u. (u.0, keeps (slice_index h.top j) s u.1)) 0 h.sends;
+  sends = each_kept (SendsInOrder f (length p.writer.target_cut) h.top) g y p.sources (λ j s u. (u.0, keeps (IsUnconcerned f j) (slice_index h.top j) s u.1)) 0 h.sends;
   turns = h.turns;
 }
 
-manager_kept : (p : Pipeline) (x : ℕ) (g : Manager → Manager) → Orderly p → Orderly (with_manager x g p)
-manager_kept p x g h = record { top = h.top; line = h.line; width = h.width; sends = h.sends; turns = h.turns }
+manager_kept : (f : Facts) (p : Pipeline) (x : ℕ) (g : Manager → Manager) → Orderly f p → Orderly f (with_manager x g p)
+manager_kept f p x g h = record { top = h.top; line = h.line; width = h.width; sends = h.sends; turns = h.turns }
 
-ask_kept : (f : Facts) (x : ℕ) (p : Pipeline) (t : QueryStep) → Orderly p → Orderly (with_step_asked f x p t)
-ask_kept f x p t h = source_kept p (slice_index (f.asked_sources x t.origin) (t.step - 1)) (with_ask x t) (λ low s u. u) h
+-- the front message of a source leaves, where this keeps its messages in order
+message_kept : (f : Facts) (p : Pipeline) (y : ℕ) → ((U : ℕ → Type 0) (low : ℕ) (s : Source) → slice_get p.sources y ≡ Some s → Ascends U low s.messages s.commit_count → Ascends U low (without_front s.messages) s.commit_count) → Orderly f p → Orderly f (with_source y without_message p)
+message_kept f p y keeps h = record {
+  top = h.top;
+  line = h.line;
+  width = h.width ∙ sym (length_changed without_message y p.sources);
+  sends = each_changed (SendsInOrder f (length p.writer.target_cut) h.top) (SendsInOrder f (length p.writer.target_cut) h.top) without_message 0 y y p.sources (omega arith) (λ m z ne v. v) (λ z at v. (v.0, keeps (IsUnconcerned f y) (slice_index h.top y) z at v.1)) h.sends;
+  turns = h.turns;
+}
 
-asks_kept : (f : Facts) (x : ℕ) (ts : List QueryStep) (p : Pipeline) → Orderly p → Orderly (fold (with_step_asked f x) p ts)
+ask_kept : (f : Facts) (x : ℕ) (p : Pipeline) (t : QueryStep) → Orderly f p → Orderly f (with_step_asked f x p t)
+ask_kept f x p t h = source_kept f p (slice_index (f.asked_sources x t.origin) (t.step - 1)) (with_ask x t) (λ U low s u. u) h
+
+asks_kept : (f : Facts) (x : ℕ) (ts : List QueryStep) (p : Pipeline) → Orderly f p → Orderly f (fold (with_step_asked f x) p ts)
 asks_kept f x [] p h = h
 asks_kept f x (t ∷ ts) p h = asks_kept f x ts (with_step_asked f x p t) (ask_kept f x p t h)
 
-managed_kept : (f : Facts) (x : ℕ) (n : Option ManagerMessage) (p : Pipeline) → Orderly p → Orderly (after_message f x n p)
+managed_kept : (f : Facts) (x : ℕ) (n : Option ManagerMessage) (p : Pipeline) → Orderly f p → Orderly f (after_message f x n p)
 managed_kept f x None p h = h
-managed_kept f x (Some (update n)) p h = asks_kept f x (first_steps f x n) (with_manager x (with_transaction f x n) p) (manager_kept p x (with_transaction f x n) h)
-managed_kept f x (Some (reply t)) p h = elim (ltb t.step (length (f.asked_sources x t.origin))) as (λ b. Orderly (cond b (with_step_asked f x (with_manager x (with_next_step t) p) (next_step t)) (with_manager x (without_query t) p))) [
-  | true ↦ ask_kept f x (with_manager x (with_next_step t) p) (next_step t) (manager_kept p x (with_next_step t) h)
-  | false ↦ manager_kept p x (without_query t) h
+managed_kept f x (Some (update n)) p h = asks_kept f x (first_steps f x n) (with_manager x (with_transaction f x n) p) (manager_kept f p x (with_transaction f x n) h)
+managed_kept f x (Some (reply t)) p h = elim (ltb t.step (length (f.asked_sources x t.origin))) as (λ b. Orderly f (cond b (with_step_asked f x (with_manager x (with_next_step t) p) (next_step t)) (with_manager x (without_query t) p))) [
+  | true ↦ ask_kept f x (with_manager x (with_next_step t) p) (next_step t) (manager_kept f p x (with_next_step t) h)
+  | false ↦ manager_kept f p x (without_query t) h
 ]
 
-answer_kept : (p : Pipeline) (y x : ℕ) (o : Option QueryStep) → Orderly p → Orderly (with_source y (after_answer x o) p)
-answer_kept p y x None h = source_kept p y (after_answer x None) (λ low s u. u) h
-answer_kept p y x (Some t) h = source_kept p y (after_answer x (Some t)) (λ low s u. ascends_answered low x t s.messages s.commit_count u) h
+answer_kept : (f : Facts) (p : Pipeline) (y x : ℕ) (o : Option QueryStep) → Orderly f p → Orderly f (with_source y (after_answer x o) p)
+answer_kept f p y x None h = source_kept f p y (after_answer x None) (λ U low s u. u) h
+answer_kept f p y x (Some t) h = source_kept f p y (after_answer x (Some t)) (λ U low s u. ascends_answered U low x t s.messages s.commit_count u) h
 
 -- ---- the integrator
 
@@ -155,44 +195,39 @@ module _ (cut top : List ℕ) (n : ℕ) (more : List Row) (m : Merge) where
         in_line = record { climbs = l.climbs; top_is = l.top_is; rising = l.rising; below = below_up n (suc n) (m.table.rows ++ more) (omega arith) l.below };
       })
 
-sent_first : (low : ℕ) (ms : List SourceMessage) (k done : ℕ) → front ms ≡ Some (sent_transaction k) → Ascends low ms done → (low < k) × Ascends k (without_front ms) done
-sent_first low [] k done e h = absurd (cc)
-sent_first low (sent_transaction j ∷ ms) k done e h = let jk : j ≡ k = cc in subst (λ z. (low < z) × Ascends z ms done) jk h
-sent_first low (sent_answer x t ∷ ms) k done e h = absurd (cc)
-
 module _ (f : Facts) (p : Pipeline) (y : ℕ) where
-  sent_kept : (k : ℕ) → oldest_message p y ≡ Some (sent_transaction k) → Orderly p → Orderly (after_numbering f (record { number = suc (length p.numbering); source = y; place = k }) (with_source y without_message p))
+  sent_kept : (k : ℕ) → oldest_message p y ≡ Some (sent_transaction k) → Orderly f p → Orderly f (after_numbering f (record { number = suc (length p.numbering); source = y; place = k }) (with_source y without_message p))
   sent_kept k e h =
       let s = of_some_is (slice_get p.sources y) (λ s. front s.messages) (sent_transaction k) e in
-      let u = each_at (SendsInOrder (length p.writer.target_cut) h.top) 0 y y p.sources s.0 (omega arith) s.1 h.sends in
+      let u = each_at (SendsInOrder f (length p.writer.target_cut) h.top) 0 y y p.sources s.0 (omega arith) s.1 h.sends in
       let n : NumberedTransaction = record { number = suc (length p.numbering); source = y; place = k } in
-      let low = (sent_first (slice_index h.top y) s.0.messages k s.0.commit_count s.2 u.1).0 in
+      let low = (sent_first (IsUnconcerned f y) (slice_index h.top y) s.0.messages k s.0.commit_count s.2 u.1).0 in
       let o : length (p.numbering ++ n ∷ []) ≡ suc (length p.numbering) = omega (arith, length-append p.numbering (n ∷ [])) in
-      elim (list_any (λ x. f.concerns y k x) (view_places f)) as (λ b. Orderly (record p { sources = changed_at y without_message p.sources; numbering = p.numbering ++ n ∷ []; managers = map_with_place (notified_manager f n) 0 p.managers; announcements = p.announcements ++ cond b (row_of f n ∷ []) [] })) [
-        | true ↦ record {
+      elim (list_any (λ x. f.concerns y k x) (view_places f)) as (λ b. list_any (λ x. f.concerns y k x) (view_places f) ≡ b → Orderly f (record p { sources = changed_at y without_message p.sources; numbering = p.numbering ++ n ∷ []; managers = map_with_place (notified_manager f n) 0 p.managers; announcements = p.announcements ++ cond b (row_of f n ∷ []) [] })) [
+        | true ↦ λ c. record {
           top = raised_cut h.top (row_of f n);
           line = subst (λ z. Lined p.writer.target_cut (raised_cut h.top (row_of f n)) z (p.announcements ++ row_of f n ∷ []) p.merge) (sym o) (line_push p.writer.target_cut h.top (length p.numbering) p.announcements p.merge (row_of f n) refl u.0 low h.line);
           width = h.width ∙ sym (length_changed without_message y p.sources);
-          sends = each_changed (SendsInOrder (length p.writer.target_cut) h.top) (SendsInOrder (length p.writer.target_cut) (raised_cut h.top (row_of f n))) without_message 0 y y p.sources (omega arith)
-              (λ m z ne v. (v.0, subst (λ l. Ascends l z.messages z.commit_count) (sym (index_other (max k) y m h.top ne)) v.1))
+          sends = each_changed (SendsInOrder f (length p.writer.target_cut) h.top) (SendsInOrder f (length p.writer.target_cut) (raised_cut h.top (row_of f n))) without_message 0 y y p.sources (omega arith)
+              (λ m z ne v. (v.0, subst (λ l. Ascends (IsUnconcerned f m) l z.messages z.commit_count) (sym (index_other (max k) y m h.top ne)) v.1))
               (λ z at v. (
                 v.0,
                 let same : z ≡ s.0 = some_same z s.0 (sym at ∙ s.1) in
-                    let first = sent_first (slice_index h.top y) z.messages k z.commit_count (subst (λ q. front q.messages ≡ Some (sent_transaction k)) (sym same) s.2) v.1 in
+                    let first = sent_first (IsUnconcerned f y) (slice_index h.top y) z.messages k z.commit_count (subst (λ q. front q.messages ≡ Some (sent_transaction k)) (sym same) s.2) v.1 in
                     let l : slice_index (raised_cut h.top (row_of f n)) y ≡ k = index_here (max k) y h.top (omega (arith, v.0, long)) ∙ greater k (slice_index h.top y) first.0 in
-                    subst (λ q. Ascends q (without_front z.messages) z.commit_count) (sym l) first.1,
+                    subst (λ q. Ascends (IsUnconcerned f y) q (without_front z.messages) z.commit_count) (sym l) first.2,
               ))
               h.sends;
           turns = h.turns;
         }
-        | false ↦ record {
+        | false ↦ λ c. record {
           top = h.top;
           line = subst (λ z. Lined p.writer.target_cut h.top z (p.announcements ++ []) p.merge) (sym o) (line_same p.writer.target_cut h.top (length p.numbering) p.announcements p.merge h.line);
           width = h.width ∙ sym (length_changed without_message y p.sources);
-          sends = each_kept (SendsInOrder (length p.writer.target_cut) h.top) without_message y p.sources (λ j s u. (u.0, ascends_behind (slice_index h.top j) s.messages s.commit_count u.1)) 0 h.sends;
+          sends = each_changed (SendsInOrder f (length p.writer.target_cut) h.top) (SendsInOrder f (length p.writer.target_cut) h.top) without_message 0 y y p.sources (omega arith) (λ m z ne v. v) (λ z at v. (v.0, ascends_behind_sent (IsUnconcerned f y) (slice_index h.top y) z.messages k z.commit_count (ap (λ o. option_and_then (λ s. front s.messages) o) (sym at) ∙ e) c v.1)) h.sends;
           turns = h.turns;
         }
-      ]
+      ] refl
     where
       long : length h.top ≡ length p.writer.target_cut
       long = sym (ap length h.line.in_line.top_is) ∙ (cut_after_length (cut_after p.writer.target_cut (joined p.merge.row_sets)) (p.merge.table.rows ++ p.announcements) ∙ cut_after_length p.writer.target_cut (joined p.merge.row_sets))
@@ -200,16 +235,16 @@ module _ (f : Facts) (p : Pipeline) (y : ℕ) where
       greater : (a b : ℕ) → b < a → max a b ≡ a
       greater a b lt = omega arith
 
-  integrated_kept : (m : Option SourceMessage) → oldest_message p y ≡ m → Orderly p → Orderly (after_integrate f y m (with_source y without_message p))
-  integrated_kept None e h = source_kept p y without_message (λ low s u. ascends_behind low s.messages s.commit_count u) h
+  integrated_kept : (m : Option SourceMessage) → oldest_message p y ≡ m → Orderly f p → Orderly f (after_integrate f y m (with_source y without_message p))
+  integrated_kept None e h = message_kept f p y (λ U low s at u. ascends_behind_none U low s.messages s.commit_count (ap (λ o. option_and_then (λ s. front s.messages) o) (sym at) ∙ e) u) h
   integrated_kept (Some (sent_transaction k)) e h = sent_kept k e h
-  integrated_kept (Some (sent_answer x t)) e h = manager_kept (with_source y without_message p) x (with_manager_message (reply t)) (source_kept p y without_message (λ low s u. ascends_behind low s.messages s.commit_count u) h)
+  integrated_kept (Some (sent_answer x t)) e h = manager_kept f (with_source y without_message p) x (with_manager_message (reply t)) (message_kept f p y (λ U low s at u. ascends_behind_answer U low x t s.messages s.commit_count (ap (λ o. option_and_then (λ s. front s.messages) o) (sym at) ∙ e) u) h)
 
 -- ---- the merge
 
-released_kept : (p : Pipeline) (o : Option Row) → front p.announcements ≡ o → Orderly p → Orderly (after_rel o p)
-released_kept p None e h = h
-released_kept p (Some r) e h =
+released_kept : (f : Facts) (p : Pipeline) (o : Option Row) → front p.announcements ≡ o → Orderly f p → Orderly f (after_rel o p)
+released_kept f p None e h = h
+released_kept f p (Some r) e h =
     let c = front_is p.announcements r e in
     let l = h.line.in_line in
     let s : p.merge.table.rows ++ p.announcements ≡ (p.merge.table.rows ++ r ∷ []) ++ without_front p.announcements = ap (λ z. p.merge.table.rows ++ z) c ∙ sym (append_assoc p.merge.table.rows (r ∷ []) (without_front p.announcements)) in
@@ -226,9 +261,9 @@ released_kept p (Some r) e h =
       turns = h.turns;
     }
 
-acted_kept : (p : Pipeline) (x : ℕ) (o : Option ℕ) → Orderly p → Orderly (after_act x o p)
-acted_kept p x None h = h
-acted_kept p x (Some j) h = record {
+acted_kept : (f : Facts) (p : Pipeline) (x : ℕ) (o : Option ℕ) → Orderly f p → Orderly f (after_act x o p)
+acted_kept f p x None h = h
+acted_kept f p x (Some j) h = record {
   top = h.top;
   line = settled_lined p.writer.target_cut h.top (length p.numbering) p.announcements (with_waiting_list x j p.merge) (record { sets_climb = h.line.sets_climb; filled = h.line.filled; in_line = h.line.in_line });
   width = h.width;
@@ -246,7 +281,7 @@ advance_by cut (r ∷ rows) filled h = record {
   above = let up : max r.place (slice_index cut r.source) ≤ slice_index (cut_after (raised_cut cut r) rows) r.source = subst (λ z. z ≤ slice_index (cut_after (raised_cut cut r) rows) r.source) (index_here (max r.place) r.source cut h.0) (cut_after_up (raised_cut cut r) rows r.source) in omega (arith, up, h.1);
 }
 
-begin_kept : (f : Facts) (p : Pipeline) (set : List Row) → front p.merge.row_sets ≡ Some set → p.writer.phase % 2 ≡ 0 → Orderly p → Orderly (after_begin f (Some (cut_after p.writer.cut set)) p)
+begin_kept : (f : Facts) (p : Pipeline) (set : List Row) → front p.merge.row_sets ≡ Some set → p.writer.phase % 2 ≡ 0 → Orderly f p → Orderly f (after_begin f (Some (cut_after p.writer.cut set)) p)
 begin_kept f p set e even h =
     let s = front_is p.merge.row_sets set e in
     let rest = without_front p.merge.row_sets in
@@ -265,7 +300,7 @@ begin_kept f p set e even h =
         in_line = subst (λ z. InLine z h.top (length p.numbering) p.announcements p.merge.table.rows) base line.in_line;
       };
       width = long ∙ h.width;
-      sends = subst (λ z. EachAt (SendsInOrder z h.top) 0 p.sources) (sym long) h.sends;
+      sends = subst (λ z. EachAt (SendsInOrder f z h.top) 0 p.sources) (sym long) h.sends;
       turns = record {
         level = λ odd. absurd (omega (arith, odd, even));
         ahead = λ odd. advance_by cut set filled.0 (climbs_front cut set (joined rest) climbs);
@@ -281,7 +316,7 @@ chain_push : (past : List (List ℕ)) (last next : List ℕ) → AllAdvance (pas
 chain_push [] last next h a = (a, tt)
 chain_push (c ∷ past) last next h a = advancing_push c past last next h a
 
-publish_kept : (f : Facts) (p : Pipeline) → p.writer.phase % 2 ≡ 1 → Orderly p → Orderly (record p { writer = after_publish p.writer })
+publish_kept : (f : Facts) (p : Pipeline) → p.writer.phase % 2 ≡ 1 → Orderly f p → Orderly f (record p { writer = after_publish p.writer })
 publish_kept f p odd h = record {
   top = h.top;
   line = h.line;
@@ -294,39 +329,39 @@ publish_kept f p odd h = record {
   };
 }
 
-change_kept : (p : Pipeline) → Orderly p → Orderly (record p { writer = after_change p.writer })
-change_kept p h = record { top = h.top; line = h.line; width = h.width; sends = h.sends; turns = record { level = h.turns.level; ahead = h.turns.ahead; chain = h.turns.chain } }
+change_kept : (f : Facts) (p : Pipeline) → Orderly f p → Orderly f (record p { writer = after_change p.writer })
+change_kept f p h = record { top = h.top; line = h.line; width = h.width; sends = h.sends; turns = record { level = h.turns.level; ahead = h.turns.ahead; chain = h.turns.chain } }
 
 some_of : {A : Type 0} (o : Option A) → is_some o ≡ true → (a : A) × (o ≡ Some a)
 some_of None h = absurd (cc)
 some_of (Some a) h = (a, refl)
 
-next_kept : (f : Facts) (p : Pipeline) (e : Event) → is_enabled f p e ≡ true → Orderly p → Orderly (next f p e)
-next_kept f p (Commit y) en h = source_kept p y after_commit (λ low s u. ascends_sent low s.messages s.commit_count u) h
-next_kept f p (Answer y x) en h = answer_kept p y x (oldest_ask p y x) h
+next_kept : (f : Facts) (p : Pipeline) (e : Event) → is_enabled f p e ≡ true → Orderly f p → Orderly f (next f p e)
+next_kept f p (Commit y) en h = source_kept f p y after_commit (λ U low s u. ascends_sent U low s.messages s.commit_count u) h
+next_kept f p (Answer y x) en h = answer_kept f p y x (oldest_ask p y x) h
 next_kept f p (Integrate y) en h = integrated_kept f p y (oldest_message p y) refl h
-next_kept f p (Manage x) en h = manager_kept (after_message f x (oldest_manager_message p x) (with_manager x without_manager_message p)) x with_list_if_answered (managed_kept f x (oldest_manager_message p x) (with_manager x without_manager_message p) (manager_kept p x without_manager_message h))
-next_kept f p Rel en h = released_kept p (front p.announcements) refl h
-next_kept f p (Act x) en h = acted_kept p x (oldest_list p x) h
+next_kept f p (Manage x) en h = manager_kept f (after_message f x (oldest_manager_message p x) (with_manager x without_manager_message p)) x with_list_if_answered (managed_kept f x (oldest_manager_message p x) (with_manager x without_manager_message p) (manager_kept f p x without_manager_message h))
+next_kept f p Rel en h = released_kept f p (front p.announcements) refl h
+next_kept f p (Act x) en h = acted_kept f p x (oldest_list p x) h
 next_kept f p Begin en h =
     let both = and_parts (is_some (front p.merge.row_sets)) (eqb (p.writer.phase % 2) 0) en in
     let set = some_of (front p.merge.row_sets) both.0 in
     let cut : next_cut p ≡ Some (cut_after p.writer.cut set.0) = ap (λ o. option_and_then (λ s. Some (cut_after p.writer.cut s)) o) set.1 in
-    subst (λ o. Orderly (after_begin f o p)) (sym cut) (begin_kept f p set.0 set.1 (eqb-true (p.writer.phase % 2) 0 both.1) h)
-next_kept f p Change en h = change_kept p h
+    subst (λ o. Orderly f (after_begin f o p)) (sym cut) (begin_kept f p set.0 set.1 (eqb-true (p.writer.phase % 2) 0 both.1) h)
+next_kept f p Change en h = change_kept f p h
 next_kept f p Publish en h = publish_kept f p (eqb-true (p.writer.phase % 2) 1 (and_parts (eqb (p.writer.phase % 2) 1) (eqb p.writer.changes_left 0) en).0) h
 next_kept f p (SessionOpen s) en h = h
 next_kept f p (SessionScan s x) en h = h
 next_kept f p (SessionFetch s n) en h = h
 next_kept f p (SessionClose s) en h = h
 
-step_kept : (f : Facts) (p : Pipeline) (e : Event) → Orderly p → Orderly (step f p e)
-step_kept f p e h = elim (is_done f p e) as (λ b. is_done f p e ≡ b → Orderly (cond b (next f p e) p)) [
+step_kept : (f : Facts) (p : Pipeline) (e : Event) → Orderly f p → Orderly f (step f p e)
+step_kept f p e h = elim (is_done f p e) as (λ b. is_done f p e ≡ b → Orderly f (cond b (next f p e) p)) [
   | true ↦ λ d. next_kept f p e (and_parts (is_enabled f p e) (not (is_some (shortage_at f p e))) d).0 h
   | false ↦ λ d. h
 ] refl
 
-pub after_kept : (f : Facts) (es : List Event) (p : Pipeline) → Orderly p → Orderly (after f p es)
+pub after_kept : (f : Facts) (es : List Event) (p : Pipeline) → Orderly f p → Orderly f (after f p es)
 after_kept f [] p h = h
 after_kept f (e ∷ es) p h = after_kept f es (step f p e) (step_kept f p e h)
 
@@ -341,11 +376,11 @@ zeros_at zero y = refl
 zeros_at (suc n) zero = refl
 zeros_at (suc n) (suc y) = zeros_at n y
 
-start_sends : (f : Facts) (width : ℕ) (top : List ℕ) → ((y : ℕ) → slice_index top y ≡ 0) → (n k : ℕ) → k + n ≤ width → EachAt (SendsInOrder width top) k (replicate n (new_source f))
+start_sends : (f : Facts) (width : ℕ) (top : List ℕ) → ((y : ℕ) → slice_index top y ≡ 0) → (n k : ℕ) → k + n ≤ width → EachAt (SendsInOrder f width top) k (replicate n (new_source f))
 start_sends f width top z zero k le = tt
-start_sends f width top z (suc n) k le = ((omega arith, omega (arith, z k)), start_sends f width top z n (suc k) (omega arith))
+start_sends f width top z (suc n) k le = ((omega arith, (omega (arith, z k), λ j a b. absurd (omega (arith, a, b)))), start_sends f width top z n (suc k) (omega arith))
 
-pub start_orderly : (f : Facts) → Orderly (start f)
+pub start_orderly : (f : Facts) → Orderly f (start f)
 start_orderly f =
     let n = length f.transactions in
     record {
@@ -363,18 +398,18 @@ get_past [] y h = omega arith
 get_past (x ∷ xs) zero h = absurd (cc)
 get_past (x ∷ xs) (suc y) h = omega (arith, get_past xs y h)
 
-top_committed : (p : Pipeline) (h : Orderly p) (y : ℕ) → slice_index h.top y ≤ committed_at p y
-top_committed p h y = go (slice_get p.sources y) refl
+top_committed : (f : Facts) (p : Pipeline) (h : Orderly f p) (y : ℕ) → slice_index h.top y ≤ committed_at p y
+top_committed f p h y = go (slice_get p.sources y) refl
   where
     long : length h.top ≡ length p.writer.target_cut
     long = sym (ap length h.line.in_line.top_is) ∙ (cut_after_length (cut_after p.writer.target_cut (joined p.merge.row_sets)) (p.merge.table.rows ++ p.announcements) ∙ cut_after_length p.writer.target_cut (joined p.merge.row_sets))
 
     go : (o : Option Source) → slice_get p.sources y ≡ o → slice_index h.top y ≤ commit_count_of o
     go None e = omega (arith, get_or_past h.top y 0 (omega (arith, get_past p.sources y e, long, h.width)))
-    go (Some s) e = ascends_le (slice_index h.top y) s.messages s.commit_count (each_at (SendsInOrder (length p.writer.target_cut) h.top) 0 y y p.sources s (omega arith) e h.sends).1
+    go (Some s) e = ascends_le (IsUnconcerned f y) (slice_index h.top y) s.messages s.commit_count (each_at (SendsInOrder f (length p.writer.target_cut) h.top) 0 y y p.sources s (omega arith) e h.sends).1
 
-target_top : (p : Pipeline) (h : Orderly p) (y : ℕ) → slice_index p.writer.target_cut y ≤ slice_index h.top y
-target_top p h y =
+target_top : (f : Facts) (p : Pipeline) (h : Orderly f p) (y : ℕ) → slice_index p.writer.target_cut y ≤ slice_index h.top y
+target_top f p h y =
     let base = cut_after p.writer.target_cut (joined p.merge.row_sets) in
     omega (arith, cut_after_up p.writer.target_cut (joined p.merge.row_sets) y, cut_after_up base (p.merge.table.rows ++ p.announcements) y, ap (λ z. slice_index z y) h.line.in_line.top_is)
 
@@ -407,5 +442,20 @@ advance f es =
     let h = after_kept f es (start f) (start_orderly f) in
     record {
       advance = h.turns.chain;
-      within_commits = all_within (committed_at p) p.writer.earlier_cuts p.writer.cut (λ y. omega (arith, cut_target p.writer h.turns y, target_top p h y, top_committed p h y)) h.turns.chain;
+      within_commits = all_within (committed_at p) p.writer.earlier_cuts p.writer.cut (λ y. omega (arith, cut_target p.writer h.turns y, target_top f p h y, top_committed f p h y)) h.turns.chain;
     }
+
+-- a place above the top, of a source with no message on its way, is unconcerned
+pub above_top : (f : Facts) (p : Pipeline) (h : Orderly f p) (y k : ℕ) (s : Source) → slice_get p.sources y ≡ Some s → s.messages ≡ [] → slice_index h.top y < k → k ≤ s.commit_count → IsUnconcerned f y k
+above_top f p h y k s at empty lt le =
+    let v = (each_at (SendsInOrder f (length p.writer.target_cut) h.top) 0 y y p.sources s (omega arith) at h.sends).1 in
+    let w : Ascends (IsUnconcerned f y) (slice_index h.top y) [] s.commit_count = subst (λ ms. Ascends (IsUnconcerned f y) (slice_index h.top y) ms s.commit_count) empty v in
+    w.1 k lt (omega (arith, le))
+
+-- where no row is on its way and no transaction is active, the top is the current cut
+pub top_is_cut : (f : Facts) (p : Pipeline) (h : Orderly f p) → p.merge.row_sets ≡ [] → p.merge.table.rows ≡ [] → p.announcements ≡ [] → p.writer.phase % 2 ≡ 0 → h.top ≡ p.writer.cut
+top_is_cut f p h no_sets no_rows none_coming even =
+    sym h.line.in_line.top_is
+    ∙ (ap (λ z. cut_after (cut_after p.writer.target_cut (joined z)) (p.merge.table.rows ++ p.announcements)) no_sets
+    ∙ (ap (λ z. cut_after p.writer.target_cut (z ++ p.announcements)) no_rows
+    ∙ (ap (λ z. cut_after p.writer.target_cut z) none_coming ∙ h.turns.level even)))

@@ -5,7 +5,7 @@ use Rattle.whips_model.specs.Members.{Has}
 use Rattle.whips_model.specs.Tuples.{Codes}
 use Rattle.whips_rel.specs.Updates.{relation_of}
 use Rattle.whips_rel.specs.declared.update.Update.{Update}
-use Rattle.whips_states.specs.States.{Updates, AreTables, AreAllValid}
+use Rattle.whips_states.specs.States.{Updates, AreSoundTables, AreAllValid}
 use Rattle.whips_choices.specs.KeyedViews.{IsKeyedView}
 use Rattle.whips_flow.specs.Lists.{places_from}
 use Rattle.whips_flow.specs.Facts.{Facts}
@@ -24,7 +24,7 @@ Changes ts r = (t : Updates) × (u : Update) × Has t ts × Has u t × (relation
 
 -- each relation has one row for a key, each source's transactions are valid one after another, no relation is changed by two sources, and each view's relations are changed by their homes alone; own
 pub record IsValidScript (s : Script) : Type 0 where
-  pub tables : AreTables s.initial
+  pub tables : AreSoundTables s.initial
   pub valid : AllByRecursion (AreAllValid s.initial) s.work
   pub apart : (y z : ℕ) (ts us : List Updates) (r : ℕ) → slice_get s.work y ≡ Some ts → slice_get s.work z ≡ Some us → Changes ts r → Changes us r → y ≡ z
   pub views : AllByRecursion (λ v. IsKeyedView v.view) s.views

@@ -3,6 +3,7 @@
 #![tactic(auto)]
 
 mod checks;
+mod concern;
 mod db;
 mod error;
 mod parts;
