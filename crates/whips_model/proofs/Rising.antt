@@ -1,13 +1,11 @@
 -- The choices of tuples come in the order of their joined keys.
-use Rattle.std.proofs.Common.{◌≡◌, ℕ, suc, ◌+◌, Bool, true, false, cond, List, [], ◌∷◌, ◌++◌, length, map, refl, sym, ap, subst, ◌∙◌, arith}
+use Rattle.std.proofs.Common.{◌≡◌, ℕ, suc, Bool, true, false, cond, List, [], ◌∷◌, ◌++◌, length, map, refl, sym, ap, ◌∙◌, arith}
 use Rattle.std.specs.List.{filter, flat_map, AllByRecursion}
 use Rattle.std.specs.Ordering.{nat_cmp, ordering_then}
-use Rattle.std.specs.declared.cmp.Ordering.{Ordering}
 use Rattle.std.specs.declared.cmp.Ordering.TheVariants.{Less, Equal, Greater}
-use Rattle.std.proofs.lemmas.Cmp.{nat_list_cmp_total, nat_cmp_total, tied_itself}
-use Rattle.std.proofs.lemmas.List.{length-map}
+use Rattle.std.proofs.lemmas.Cmp.{nat_cmp_total, tied_itself}
 use Rattle.whips_model.specs.Tuples.{Codes, codes_cmp, at_columns, IsBefore, IsKeyed}
-use Rattle.whips_model.specs.Views.{ViewData, Choice, meets, out_row, choices, rows_of}
+use Rattle.whips_model.specs.Views.{ViewData, Choice, meets, out_row, choices}
 use Rattle.whips_model.specs.Keys.{joined_key, AreKeyed, HasKeysAt, ValueIsKeyed}
 
 -- lists of one length decide, where they differ

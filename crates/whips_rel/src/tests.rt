@@ -1,5 +1,5 @@
 //! Each public call once, with ample memory.
-ghost use Rattle.std.specs.Prelude.{◌≡◌, [], ◌∷◌, IfOk};
+ghost use Rattle.std.specs.Prelude.{◌≡◌, [], ◌∷◌, IfOk, OnOk, length};
 ghost use Rattle.whips_model.specs.declared.Kind.TheVariants.{Number};
 
 use crate::{
@@ -49,25 +49,46 @@ fn lists_of_tuples_grow_and_shrink(rt: HostRuntime) -> Result<(), Fail> {
     Ok(())
 }
 
+/// Puts a pair in.
+fn put(relation: &mut Relation, tuple: Tuple) -> Result<(), NoMemory>
+    requires width { length tuple ≡ 2 }
+    requires pairs { relation.old.columns.kinds ≡ Number ∷ Number ∷ [] }
+    ensures { OnOk result (relation.new.columns ≡ relation.old.columns) }
+{
+    match relation.insert(tuple) {
+        Ok(()) => Ok(()),
+        Err(InsertErr::Present(_)) | Err(InsertErr::NoMemory(_)) => Err(NoMemory),
+    }
+}
+
 #[test]
 fn rows_come_in_key_order(rt: HostRuntime) -> Result<(), Fail> {
     let mut relation = pairs(rt.alloc())?;
-    for codes in [[1, 9], [2, 4], [3, 6]] {
-        let tuple = Tuple::from_slice(rt.alloc(), &codes)?;
-        if tuple.len() == 2 {
-            assert!(rt; relation.insert(tuple).is_ok());
-        }
-    }
-    assert_eq!(rt; relation.len(), 3);
-    assert_eq!(rt; relation.row(0).codes(), [2, 4].as_slice());
-    assert_eq!(rt; relation.rows().len(), 3);
+    put(&mut relation, Tuple::from_slice(rt.alloc(), &[3, 6])?)?;
+    put(&mut relation, Tuple::from_slice(rt.alloc(), &[2, 4])?)?;
     let key = Tuple::from_slice(rt.alloc(), &[6])?;
+    assert!(rt; relation.get(&key).is_some());
+    assert_eq!(rt; relation.len(), 2);
+    assert_eq!(rt; relation.row(0).codes(), [2, 4].as_slice());
+    let copy = relation.copy()?;
     match relation.delete(&key) {
         Ok(row) => assert_eq!(rt; row.codes(), [3, 6].as_slice()),
         Err(Absent) => assert!(rt; false),
     }
-    assert!(rt; relation.get(&key).is_none());
-    let copy = relation.copy()?;
+    assert_eq!(rt; relation.rows().len(), 1);
     assert_eq!(rt; copy.len(), 2);
+    Ok(())
+}
+
+#[test]
+fn an_update_names_its_relation_and_tuple(rt: HostRuntime) -> Result<(), Fail> {
+    let update = Update::Delete(3, Tuple::from_slice(rt.alloc(), &[7])?);
+    assert_eq!(rt; update.relation(), 3);
+    assert_eq!(rt; update.tuple().codes(), [7].as_slice());
+    let trans = Trans {
+        items: vec![in rt.alloc(); update]?,
+    };
+    assert_eq!(rt; trans.items.len(), 1);
+    let _change = Change::Remove(Tuple::from_slice(rt.alloc(), &[7])?);
     Ok(())
 }
