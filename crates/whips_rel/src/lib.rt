@@ -7,6 +7,8 @@
 mod memory;
 mod relation;
 mod schema;
+#[cfg(test)]
+mod tests;
 mod tuple;
 mod update;
 

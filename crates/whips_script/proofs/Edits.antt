@@ -93,3 +93,11 @@ module _ (c : Columns) (start : List Codes) (table after : Table) (front made : 
       ∙ ap (λ rs. updated_on see c name (front ++ u ∷ []) rs (drop (i + 1) xs)) turn_after
       ∙ sym (updated_more see c name front table.rows xs i x u in_range at (ap (λ k. update_in k name table.rows (see x)) (sym same) ∙ read))
       ∙ so_far
+
+-- all updates made in a copy of a relation
+pub made_all : (t copy after : Table) (us : List Update) → copy ≡ t → after.columns ≡ copy.columns → after.rows ≡ rows_after_all copy.columns.key us copy.rows
+    → after ≡ record { columns = t.columns; rows = rows_after_all t.columns.key us t.rows }
+made_all t copy after us same columns rows =
+    let e : after.columns ≡ t.columns = columns ∙ ap (λ (l : Table). l.columns) same in
+    let f : after.rows ≡ rows_after_all t.columns.key us t.rows = rows ∙ ap (λ (l : Table). rows_after_all l.columns.key us l.rows) same in
+    λ i. record { columns = e i; rows = f i }

@@ -3,3 +3,5 @@ pub mod Names
 pub mod Forms
 pub mod Rows
 pub mod Relations
+pub mod Script
+pub mod Refusals

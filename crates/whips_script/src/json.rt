@@ -1,5 +1,5 @@
 //! Looking into a JSON document.
-ghost use Rattle.std.specs.Prelude.{◌≡◌, ◌≢◌, IfOk, IfErr, Some, None, map, length, nat_le, ◌&&◌, ◌==◌, string_bytes};
+ghost use Rattle.std.specs.Prelude.{◌≡◌, ◌≢◌, IfOk, IfErr, Some, None, map, length, nat_le, ◌&&◌, ◌==◌, string_bytes, option_and_then};
 ghost use Rattle.std.specs.Option.{option_map};
 ghost use Rattle.std.specs.List.{list_all};
 ghost use Rattle.std.specs.BTreeMap.{keys};
@@ -40,12 +40,22 @@ pub(crate) fn member<'a>(value: &'a Value, name: &str) -> Result<&'a Value, Read
 }
 
 /// The elements of a list.
+pub(crate) fn list_of<'a>(value: &'a Value) -> Option<&'a [Value]>
+    ensures { option_map (λ vs. map view vs.now) result ≡ elements (view value.now) }
+{
+    match value.as_array() {
+        Some(items) => Some(items.as_slice()),
+        None => None,
+    }
+}
+
+/// The elements of a list, or the refusal of what is none.
 pub(crate) fn elements<'a>(value: &'a Value) -> Result<&'a [Value], ReadErr>
     ensures ok { IfOk result (λ vs. elements (view value.now) ≡ Some (map view vs.now)) }
     ensures refused { IfErr result (λ e. e ≢ ReadErr.NoMemory → elements (view value.now) ≡ None) }
 {
-    match value.as_array() {
-        Some(items) => Ok(items.as_slice()),
+    match list_of(value) {
+        Some(items) => Ok(items),
         None => Err(ReadErr::Unbuilt),
     }
 }
@@ -64,6 +74,17 @@ pub(crate) fn elements_within<'a>(
         return Ok(items);
     }
     Err(ReadErr::Unbuilt)
+}
+
+/// The only element of a list of one.
+pub(crate) fn only_element<'a>(value: &'a Value) -> Result<&'a Value, ReadErr>
+    ensures ok { IfOk result (λ v. option_and_then single (elements (view value.now)) ≡ Some (view v.now)) }
+    ensures refused { IfErr result (λ e. e ≢ ReadErr.NoMemory → option_and_then single (elements (view value.now)) ≡ None) }
+{
+    match elements(value)? {
+        [only] => Ok(only),
+        _ => Err(ReadErr::Unbuilt),
+    }
 }
 
 /// Whether the value is this text.

@@ -4,13 +4,25 @@
 mod json;
 mod relation;
 mod rows;
+mod script;
 mod source;
 mod text;
+mod view;
 
 use std::alloc::{AllocError, AllocFailed};
 use whips_rel::NoMemory;
 
+pub use script::{Script, ScriptErr, read_script};
 pub use text::Text;
+
+/// Why a text isn't a script.
+#[derive(Clone, Copy, Debug, PartialEq, Eq)]
+pub enum Refusal {
+    /// It has no reading as JSON.
+    Syntax,
+    /// It isn't of a form that is built, or is wrong in another way.
+    Unbuilt,
+}
 
 /// Why a value wasn't read.
 #[derive(Clone, Copy, Debug, PartialEq, Eq)]

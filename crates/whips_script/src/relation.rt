@@ -4,10 +4,11 @@ ghost use Rattle.std.specs.Option.{option_map};
 ghost use Rattle.std.specs.List.{AllByRecursion};
 ghost use Rattle.serde_json.specs.View.{view};
 ghost use Rattle.whips_model.specs.declared.Kind.TheVariants.{Number};
-ghost use Rattle.whips_script.specs.Names.{place_in, place_of};
+ghost use Rattle.whips_script.specs.Json.{each};
+ghost use Rattle.whips_script.specs.Names.{place_in, place_of, qualified};
 ghost use Rattle.whips_script.specs.Relations.{column_in, columns_in, key_in, relation_in, only_relation_in};
 
-use crate::json::{ObjectForm, elements, elements_within, is_object_of, is_text, member};
+use crate::json::{ObjectForm, elements, elements_within, is_object_of, is_text, member, only_element};
 use crate::rows::read_rows;
 use crate::text::{are_distinct, are_distinct_places};
 use crate::{ReadErr, Text};
@@ -31,6 +32,34 @@ impl Model for RelationForm {
     ghost Value = { RelationData };
 
     ghost view = { λ r. record { name = r.name; columns = r.columns.items; table = r.relation } };
+}
+
+impl RelationForm {
+    /// The name of the relation.
+    pub(crate) fn name(&self) -> &Text
+        ensures { result.now ≡ self.now.name }
+    {
+        &self.name
+    }
+
+    /// The relation with its initial rows.
+    pub(crate) fn relation(&self) -> &Relation
+        ensures { result.now ≡ self.now.table }
+    {
+        &self.relation
+    }
+
+    /// The columns, each as `relation.column`.
+    pub(crate) fn qualified_columns(&self, alloc: Global) -> Result<Vec<Text>, ReadErr>
+        ensures ok { IfOk result (λ v. v.items ≡ map (qualified self.now.name) self.now.columns) }
+        ensures memory { IfErr result (λ e. e ≡ ReadErr.NoMemory) }
+    {
+        let mut columns = Vec::new(alloc);
+        for column in &self.columns {
+            columns.push(Text::qualified(alloc, &self.name, column)?)?;
+        }
+        Ok(columns)
+    }
 }
 
 /// A number column.
@@ -97,6 +126,23 @@ pub(crate) fn read_place(names: &[Text], value: &Value) -> Result<u32, ReadErr>
     }
 }
 
+/// The place of each name among these.
+pub(crate) fn read_places(
+    alloc: Global,
+    names: &[Text],
+    items: &[Value],
+) -> Result<Vec<u32>, ReadErr>
+    requires { length names.now ≤ 16 }
+    ensures ok { IfOk result (λ v. (each (place_in names.now) (map view items.now) ≡ Some v.items) × AllByRecursion (λ c. c < length names.now) v.items) }
+    ensures refused { IfErr result (λ e. e ≢ ReadErr.NoMemory → each (place_in names.now) (map view items.now) ≡ None) }
+{
+    let mut places = Vec::new(alloc);
+    for item in items {
+        places.push(read_place(names, item)?)?;
+    }
+    Ok(places)
+}
+
 /// The places of the key columns.
 fn read_key(alloc: Global, names: &[Text], value: &Value) -> Result<Vec<u32>, ReadErr>
     requires { length names.now ≤ 16 }
@@ -104,10 +150,7 @@ fn read_key(alloc: Global, names: &[Text], value: &Value) -> Result<Vec<u32>, Re
     ensures refused { IfErr result (λ e. e ≢ ReadErr.NoMemory → key_in names.now (view value.now) ≡ None) }
 {
     let items = elements_within(value, 1, 8)?;
-    let mut places = Vec::new(alloc);
-    for item in items {
-        places.push(read_place(names, item)?)?;
-    }
+    let places = read_places(alloc, names, items)?;
     if are_distinct_places(&places) {
         return Ok(places);
     }
@@ -149,8 +192,5 @@ pub(crate) fn read_only_relation(alloc: Global, value: &Value) -> Result<Relatio
     ensures ok { IfOk result (λ r. (only_relation_in (view value.now) ≡ Some r) × (length r.columns ≤ 8)) }
     ensures refused { IfErr result (λ e. e ≢ ReadErr.NoMemory → only_relation_in (view value.now) ≡ None) }
 {
-    match elements(value)? {
-        [only] => read_relation(alloc, only),
-        _ => Err(ReadErr::Unbuilt),
-    }
+    read_relation(alloc, only_element(value)?)
 }

@@ -1,10 +1,13 @@
 //! A source with its relation and its updates.
 ghost use Rattle.std.specs.Prelude.{◌≡◌, ◌≢◌, ◌≤◌, IfOk, IfErr, Some, None, length};
+ghost use Rattle.std.specs.List.{AllByRecursion};
 ghost use Rattle.serde_json.specs.View.{view};
+ghost use Rattle.whips_rel.specs.Updates.{relation_of};
 ghost use Rattle.whips_script.specs.Relations.{source_in};
+ghost use Rattle.whips_script.specs.Script.{only_source_in};
 ghost use Rattle.whips_script.specs.Rows.{rows_after_all};
 
-use crate::json::{ObjectForm, is_object_of, member};
+use crate::json::{ObjectForm, is_object_of, member, only_element};
 use crate::relation::{RelationForm, read_only_relation};
 use crate::rows::read_updates;
 use crate::{ReadErr, Text};
@@ -25,13 +28,47 @@ pub(crate) struct SourceForm {
 impl Model for SourceForm {
     ghost use Rattle.std.specs.Prelude.{◌≡◌};
     ghost use Rattle.whips_script.specs.Relations.{SourceForm as SourceData};
+    ghost use Rattle.std.specs.List.{AllByRecursion};
+    ghost use Rattle.whips_rel.specs.Updates.{relation_of};
     ghost use Rattle.whips_script.specs.Rows.{rows_after_all};
 
     ghost Value = { SourceData };
 
     ghost view = { λ s. record { name = s.name; relation = s.relation; updates = s.updates.items } };
 
-    ghost invariant = { λ s. s.last ≡ record s.relation.table { rows = rows_after_all s.relation.table.columns.key s.updates.items s.relation.table.rows } };
+    ghost invariant = { λ s. (s.last ≡ record s.relation.table { rows = rows_after_all s.relation.table.columns.key s.updates.items s.relation.table.rows })
+        × AllByRecursion (λ u. relation_of u ≡ 0) s.updates.items };
+}
+
+impl SourceForm {
+    /// The name of the source.
+    pub(crate) fn name(&self) -> &Text
+        ensures { result.now ≡ self.now.name }
+    {
+        &self.name
+    }
+
+    /// The relation with its initial rows.
+    pub(crate) fn relation(&self) -> &RelationForm
+        ensures { result.now ≡ self.now.relation }
+    {
+        &self.relation
+    }
+
+    /// The number of updates.
+    pub(crate) fn update_count(&self) -> usize
+        ensures { result ≡ length self.now.updates }
+    {
+        self.updates.len()
+    }
+
+    /// The relation after all updates, each of which is one of relation 0.
+    pub(crate) fn last(&self) -> &Relation
+        ensures last { result.now ≡ record self.now.relation.table { rows = rows_after_all self.now.relation.table.columns.key self.now.updates self.now.relation.table.rows } }
+        ensures numbers { AllByRecursion (λ u. relation_of u ≡ 0) self.now.updates }
+    {
+        &self.last
+    }
 }
 
 /// A source with one relation.
@@ -52,4 +89,12 @@ fn read_source(alloc: Global, value: &Value) -> Result<SourceForm, ReadErr>
         updates,
         last,
     })
+}
+
+/// The source of a list of one.
+pub(crate) fn read_only_source(alloc: Global, value: &Value) -> Result<SourceForm, ReadErr>
+    ensures ok { IfOk result (λ s. (only_source_in (view value.now) ≡ Some s) × (length s.relation.columns ≤ 8)) }
+    ensures refused { IfErr result (λ e. e ≢ ReadErr.NoMemory → only_source_in (view value.now) ≡ None) }
+{
+    read_source(alloc, only_element(value)?)
 }

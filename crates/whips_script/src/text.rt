@@ -45,7 +45,7 @@ impl Text {
     }
 
     /// The column of the relation, as `relation.column`.
-    fn qualified(alloc: Global, relation: &Text, column: &Text) -> Result<Text, ReadErr>
+    pub(crate) fn qualified(alloc: Global, relation: &Text, column: &Text) -> Result<Text, ReadErr>
         ensures ok { IfOk result (λ t. t ≡ qualified relation.now column.now) }
         ensures memory { IfErr result (λ e. e ≡ ReadErr.NoMemory) }
     {

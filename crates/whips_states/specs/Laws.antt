@@ -8,17 +8,17 @@ use Rattle.whips_choices.specs.KeyedViews.{KeyedView, part_key}
 use Rattle.whips_choices.specs.Edits.{put_rows}
 use Rattle.whips_choices.specs.Partials.{meets_at}
 use Rattle.whips_rel.specs.declared.update.Update.TheVariants.{Insert, Delete}
-use Rattle.whips_states.specs.States.{Updates, applied, AreValid, AreTables}
+use Rattle.whips_states.specs.States.{Updates, applied, AreValid, AreSoundTables}
 use Rattle.whips_states.specs.Concerns.{meets_part, concerns}
 use Rattle.whips_states.specs.Net.{inserted, deleted, first_of_key, last_of_key, given_at, taken_at, relation_at}
 
 -- A valid transaction that doesn't concern a view leaves the view's value as it was.
 abbrev pub UnconcernedKeeps : Type 0
-UnconcernedKeeps = (view : ViewData) (db : List Table) (t : Updates) → AreTables db → AreValid db t → concerns view t ≡ false → value_of view (applied db t) ≡ value_of view db
+UnconcernedKeeps = (view : ViewData) (db : List Table) (t : Updates) → AreSoundTables db → AreValid db t → concerns view t ≡ false → value_of view (applied db t) ≡ value_of view db
 
 -- A transaction leaves tables tables.
 abbrev pub TablesStay : Type 0
-TablesStay = (db : List Table) (t : Updates) → AreTables db → AreValid db t → AreTables (applied db t)
+TablesStay = (db : List Table) (t : Updates) → AreSoundTables db → AreValid db t → AreSoundTables (applied db t)
 
 -- The rows that have none of these keys.
 abbrev pub without_keys : List ℕ → List Codes → List Codes → List Codes
@@ -26,7 +26,7 @@ without_keys key ks rows = fold (λ rows k. without_key key k rows) rows ks
 
 -- After a valid transaction a relation has its rows without the keys whose first update is a delete, and then with the tuples whose key's last update is their insert.
 abbrev pub NetRows : Type 0
-NetRows = (db : List Table) (t : Updates) (r : ℕ) (table : Table) → AreTables db → AreValid db t → slice_get db r ≡ Some table
+NetRows = (db : List Table) (t : Updates) (r : ℕ) (table : Table) → AreSoundTables db → AreValid db t → slice_get db r ≡ Some table
     → slice_get (applied db t) r ≡ Some (record table { rows = put_rows table.columns.key (inserted r table.columns.key t) (without_keys table.columns.key (map (at_columns table.columns.key) (deleted r table.columns.key t)) table.rows) })
 
 -- The inserted tuples of a transaction are those whose key's last update is their insert, and they are in the order of their keys.

@@ -66,5 +66,5 @@ AreAllValid db [] = Unit {0}
 AreAllValid db (t ∷ ts) = AreValid db t × AreAllValid (applied db t) ts
 
 -- Each relation has rows of its width in the order of their keys, no key twice.
-abbrev pub AreTables : List Table → Type 0
-AreTables db = AllByRecursion (λ table. IsTable table.columns table.rows) db
+abbrev pub AreSoundTables : List Table → Type 0
+AreSoundTables db = AllByRecursion (λ table. IsTable table.columns table.rows) db

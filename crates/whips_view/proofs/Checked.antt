@@ -1,6 +1,6 @@
 -- What follows where no refusal of a view's making holds.
-use Rattle.std.proofs.Common.{◌≡◌, ◌⊎◌, inl, inr, ℕ, zero, suc, ◌+◌, ◌<◌, ◌==◌, ◌&&◌, ◌||◌, nat_le, Bool, true, false, cond, is_some, Option, Some, None, List, [], ◌∷◌, ◌++◌, length, map, get_or, slice_get, refl, sym, ap, ap₂, subst, ◌∙◌, arith, eqb-true, eq-eqb}
-use Rattle.std.specs.List.{list_any, AllByRecursion}
+use Rattle.std.proofs.Common.{◌≡◌, ◌⊎◌, inl, inr, ℕ, zero, suc, ◌+◌, ◌<◌, ◌==◌, ◌&&◌, ◌||◌, nat_le, Bool, true, false, cond, is_some, Option, Some, None, List, [], ◌∷◌, length, map, get_or, slice_get, refl, sym, ap, ap₂, subst, ◌∙◌, arith, eqb-true, eq-eqb}
+use Rattle.std.specs.List.{list_any}
 use Rattle.std.specs.Option.{option_or}
 use Rattle.std.proofs.lemmas.Bool.{and_parts}
 use Rattle.std.proofs.lemmas.List.{length-map}
@@ -12,12 +12,12 @@ use Rattle.whips_model.specs.Tuples.{Columns, AreColumns}
 use Rattle.whips_model.specs.Views.{ViewData}
 use Rattle.whips_model.specs.Members.{Has}
 use Rattle.whips_model.proofs.Members.{has_first, has_later, has_none, has_cases, has_either, has_before, has_mapped, all_from_has}
-use Rattle.whips_choices.specs.Places.{column, place_of, places_from, joined, IsChecked}
+use Rattle.whips_choices.specs.Places.{column, place_of, places_from, joined}
 use Rattle.whips_choices.proofs.Placed.{keyed_is}
 use Rattle.whips_view.specs.declared.error.ViewErr.{ViewErr}
-use Rattle.whips_view.specs.declared.error.ViewErr.TheVariants.{Limit, NoRelation, TwiceUsed, NoColumn, Kinds, KeyMissing}
-use Rattle.whips_view.specs.ViewDefs.{View, view_of, kind_of, kinds_in, is_within, are_within, row_columns, no_columns, AreDistinct, IsWellFormed}
-use Rattle.whips_view.specs.Refusals.{limit_refusal, relation_refusal, twice_refusal, column_refusal, equality_columns, kinds_refusal, is_column, key_refusal_at, key_refusal, refusal_in, refusal_of}
+use Rattle.whips_view.specs.declared.error.ViewErr.TheVariants.{Limit, TwiceUsed, NoColumn, KeyMissing}
+use Rattle.whips_view.specs.ViewDefs.{kind_of, kinds_in, is_within, are_within, AreDistinct, IsWellFormed}
+use Rattle.whips_view.specs.Refusals.{limit_refusal, twice_refusal, column_refusal, equality_columns, kinds_refusal, is_column, key_refusal_at, key_refusal, refusal_in}
 
 -- ---- options and tests
 

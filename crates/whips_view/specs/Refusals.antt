@@ -1,6 +1,6 @@
 -- The first reason, in a fixed order, why parts make no view.
-use Rattle.std.specs.Prelude.{ℕ, suc, ◌&&◌, ◌==◌, nat_lt, not, Bool, true, false, cond, List, [], ◌∷◌, length, map, is_some, find, Option, Some, None}
-use Rattle.std.specs.Option.{option_map, option_or}
+use Rattle.std.specs.Prelude.{ℕ, suc, ◌&&◌, ◌==◌, nat_lt, Bool, true, false, cond, List, [], ◌∷◌, length, map, is_some, Option, Some, None}
+use Rattle.std.specs.Option.{option_or}
 use Rattle.std.specs.List.{list_all, list_any}
 use Rattle.whips_model.specs.declared.Kind.{Kind}
 use Rattle.whips_model.specs.declared.Kind.TheVariants.{Number, Text}

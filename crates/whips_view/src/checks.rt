@@ -202,7 +202,12 @@ fn check_key(out: &[ColRef], part: u32, relation: u32, key: &[u32]) -> Result<()
 }
 
 /// That each key column of the relations from this part on is among the out columns.
-pub fn check_keys(out: &[ColRef], part: u32, relations: &[u32], bases: &[Schema]) -> Result<(), ViewErr>
+pub fn check_keys(
+    out: &[ColRef],
+    part: u32,
+    relations: &[u32],
+    bases: &[Schema],
+) -> Result<(), ViewErr>
     requires { part + length relations.now < 2 ^ 32 }
     ensures ok { OnOk result (key_refusal out.now part relations.now bases.now ≡ None) }
     ensures refused { IfErr result (λ e. key_refusal out.now part relations.now bases.now ≡ Some e) }

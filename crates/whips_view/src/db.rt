@@ -1,6 +1,6 @@
 //! All relations by number.
 ghost use Rattle.std.specs.Prelude.{◌≡◌, ◌<◌, ◌==◌, length, slice_get, Some};
-ghost use Rattle.whips_states.specs.States.{AreTables};
+ghost use Rattle.whips_states.specs.States.{AreSoundTables};
 
 use std::marker::Model;
 use whips_rel::Relation;
@@ -14,13 +14,13 @@ pub struct Db {
 impl Model for Db {
     ghost use Rattle.std.specs.Prelude.{List};
     ghost use Rattle.whips_model.specs.Relation.{Table};
-    ghost use Rattle.whips_states.specs.States.{AreTables};
+    ghost use Rattle.whips_states.specs.States.{AreSoundTables};
 
     ghost Value = { List Table };
 
     ghost view = { λ d. d.relations.items };
 
-    ghost invariant = { λ d. AreTables d.relations.items };
+    ghost invariant = { λ d. AreSoundTables d.relations.items };
 }
 
 impl Db {
@@ -34,10 +34,9 @@ impl Db {
         Db { relations }
     }
 
-    /// The number of relations. Each has rows of its width in the order of their keys.
+    /// The number of relations.
     pub fn len(&self) -> usize
-        ensures len { result ≡ length self.now }
-        ensures sound { AreTables self.now }
+        ensures { result ≡ length self.now }
     {
         self.relations.len()
     }
@@ -47,6 +46,14 @@ impl Db {
         ensures { result ≡ (length self.now == 0) }
     {
         self.relations.is_empty()
+    }
+
+    /// All relations by number. Each has rows of its width in the order of their keys.
+    pub fn relations(&self) -> &[Relation]
+        ensures relations { result.now ≡ self.now }
+        ensures sound { AreSoundTables self.now }
+    {
+        &self.relations
     }
 
     /// The relation of this number.

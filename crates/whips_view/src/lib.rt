@@ -3,10 +3,12 @@
 #![tactic(auto)]
 
 mod checks;
+mod concern;
 mod db;
 mod error;
 mod parts;
 mod view;
+mod walk;
 
 pub use db::Db;
 pub use error::ViewErr;

@@ -3,18 +3,20 @@ ghost use Rattle.std.specs.Prelude.{◌≡◌, ◌≢◌, ◌<◌, ◌≤◌, �
 ghost use Rattle.std.specs.Option.{unwrap_or};
 ghost use Rattle.whips_model.specs.declared.Kind.TheVariants.{Number};
 ghost use Rattle.whips_choices.specs.Places.{place_of, places_from, joined};
-ghost use Rattle.whips_view.specs.ViewDefs.{view_of, kind_of, no_columns, row_columns, IsWellFormed};
+ghost use Rattle.whips_view.specs.ViewDefs.{view_of, kind_of, no_columns, row_columns, IsWellFormed, HasBases};
+ghost use Rattle.whips_model.specs.Relation.{value_of};
 ghost use Rattle.whips_view.specs.Refusals.{relation_refusal, refusal_in, refusal_of, limit_refusal, twice_refusal};
 
 use crate::checks::{
     check_conds, check_equal, check_keys, check_limits, check_once, check_out, check_relations,
     join_one_kind, kind_at, test_own_kind,
 };
-use crate::{ViewErr, ViewParts};
+use crate::walk::value_rows;
+use crate::{Db, ViewErr, ViewParts};
 use std::alloc::Global;
 use std::marker::Model;
 use whips_model::{ColRef, Kind};
-use whips_rel::{Kinds, NoMemory, Places, Schema};
+use whips_rel::{Kinds, NoMemory, Places, Relation, Rows, Schema};
 
 /// A view over several relations, seen as its parts and the columns of its relations.
 #[derive(Drop)]
@@ -92,6 +94,21 @@ impl ViewDef {
         &self.bases[part as usize]
     }
 
+    /// The allocator of the view's lists.
+    fn alloc(&self) -> Global {
+        *self.bases.allocator()
+    }
+
+    /// The view's value on all relations by number: the row of each choice of one tuple per relation that meets all
+    /// equalities and conditions, in the order of the rows' keys.
+    pub fn value(&self, db: &Db) -> Result<Rows, NoMemory>
+        requires { HasBases self.now db.now }
+        ensures { IfOk result (λ rows. rows ≡ record { columns = row_columns self.now; rows = value_of self.now.parts db.now }) }
+    {
+        let rows = value_rows(self.alloc(), self.parts(), db.relations())?;
+        Ok(Relation::from_rows(self.schema().copy()?, rows))
+    }
+
     /// The same view again.
     pub fn copy(&self) -> Result<ViewDef, NoMemory>
         ensures { IfOk result (λ v. v ≡ self.now) }
@@ -109,7 +126,11 @@ impl ViewDef {
 }
 
 /// The schema of each relation.
-fn bases_of(alloc: Global, schemas: &Vec<Schema>, relations: &[u32]) -> Result<Vec<Schema>, NoMemory>
+fn bases_of(
+    alloc: Global,
+    schemas: &Vec<Schema>,
+    relations: &[u32],
+) -> Result<Vec<Schema>, NoMemory>
     requires { relation_refusal (length schemas.now.items) relations.now ≡ None }
     ensures bases { IfOk result (λ b. b.items ≡ map (λ r. slice_index_or schemas.now.items r no_columns) relations.now) }
     ensures length { IfOk result (λ b. length b.items ≡ length relations.now) }
@@ -120,7 +141,11 @@ fn bases_of(alloc: Global, schemas: &Vec<Schema>, relations: &[u32]) -> Result<V
 }
 
 /// Adds the schema of each relation.
-fn add_bases(schemas: &Vec<Schema>, relations: &[u32], bases: &mut Vec<Schema>) -> Result<(), NoMemory>
+fn add_bases(
+    schemas: &Vec<Schema>,
+    relations: &[u32],
+    bases: &mut Vec<Schema>,
+) -> Result<(), NoMemory>
     requires { relation_refusal (length schemas.now.items) relations.now ≡ None }
     ensures { OnOk result (bases.new.items ≡ bases.old.items ++ map (λ r. slice_index_or schemas.now.items r no_columns) relations.now) }
 {
@@ -167,7 +192,12 @@ fn place_in(out: &[ColRef], part: u32, column: u32) -> u32
 }
 
 /// Adds the places of the key columns of the parts from this one on.
-fn add_places(out: &[ColRef], part: u32, bases: &[Schema], places: &mut Vec<u32>) -> Result<(), NoMemory>
+fn add_places(
+    out: &[ColRef],
+    part: u32,
+    bases: &[Schema],
+    places: &mut Vec<u32>,
+) -> Result<(), NoMemory>
     requires out { length out.now ≤ 16 }
     requires parts { part + length bases.now < 2 ^ 32 }
     ensures { OnOk result (places.new.items ≡ places.old.items ++ joined (places_from out.now part (map (λ b. b.key) bases.now))) }

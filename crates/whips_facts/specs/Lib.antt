@@ -1,0 +1,4 @@
+pub mod Scripts
+pub mod Queries
+pub mod ScriptFacts
+pub mod Values

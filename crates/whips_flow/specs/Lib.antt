@@ -1,0 +1,10 @@
+pub mod Lists
+pub mod Events
+pub mod Facts
+pub mod Painted
+pub mod State
+pub mod Settling
+pub mod Cuts
+pub mod Effects
+pub mod Progress
+pub mod Work

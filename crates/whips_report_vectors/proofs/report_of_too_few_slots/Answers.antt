@@ -1,0 +1,7 @@
+use Rattle.std.proofs.Common.{refl}
+use Rattle.std.specs.Fmt.{digits}
+use Rattle.whips_report_vectors.proofs.report_of_too_few_slots.Goals as goal
+
+pub returns : goal.returns
+unfolding digits
+returns c = refl

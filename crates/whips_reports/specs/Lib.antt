@@ -1,0 +1,3 @@
+pub mod Reported
+pub mod Lines
+pub mod Summary

@@ -1,0 +1,4 @@
+pub mod Sessions
+pub mod Records
+pub mod World
+pub mod Picks

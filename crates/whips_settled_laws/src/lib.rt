@@ -1,0 +1,10 @@
+//! Where no event is enabled, nothing is left on its way.
+#![tactic(auto)]
+
+ghost use Rattle.whips_settled_laws.specs.Settled.{NothingIsLeft};
+
+/// Where no event of the pipeline is enabled after a list of events, every transaction is committed,
+/// every queue, open step, row and row set is used up, and the phase is even.
+pub fn nothing_is_left()
+    ensures { NothingIsLeft }
+{}

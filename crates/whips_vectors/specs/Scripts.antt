@@ -1,0 +1,58 @@
+-- Pieces of the worked scripts. Each relation has its first column as its key.
+use Rattle.std.specs.Prelude.{ℕ, List, [], ◌∷◌, length, map, replicate}
+use Rattle.whips_model.specs.declared.ColRef.{ColRef}
+use Rattle.whips_model.specs.declared.Kind.TheVariants.{Number}
+use Rattle.whips_model.specs.Tuples.{Codes}
+use Rattle.whips_model.specs.Relation.{Table}
+use Rattle.whips_model.specs.Views.{ViewData}
+use Rattle.whips_choices.specs.Places.{keyed_view}
+use Rattle.whips_rel.specs.declared.update.Update.{Update}
+use Rattle.whips_states.specs.States.{Updates}
+use Rattle.whips_facts.specs.Scripts.{Script, SlottedView, value_at}
+use Rattle.whips_flow.specs.declared.event.Event.{Event}
+use Rattle.whips_flow.specs.declared.event.Event.TheVariants.{Commit, Answer, Integrate, Manage, Rel, Act}
+
+abbrev pub row2 : ℕ → ℕ → Codes
+row2 a b = a ∷ b ∷ []
+
+abbrev pub row3 : ℕ → ℕ → ℕ → Codes
+row3 a b c = a ∷ b ∷ c ∷ []
+
+abbrev pub row4 : ℕ → ℕ → ℕ → ℕ → Codes
+row4 a b c d = a ∷ b ∷ c ∷ d ∷ []
+
+-- two number columns
+abbrev pub table2 : List Codes → Table
+table2 rows = record { columns = record { kinds = Number ∷ Number ∷ []; key = 0 ∷ [] }; rows = rows }
+
+-- column c of the view's part p
+abbrev pub at : ℕ → ℕ → ColRef
+at p c = record { part = p; col = c }
+
+abbrev pub with_slots : ℕ → ViewData → SlottedView
+with_slots n view = record { view = keyed_view view (replicate (length view.relations) (0 ∷ [])); slots = n }
+
+abbrev pub single : Update → Updates
+single u = u ∷ []
+
+-- R(a, b) of source 0 joined with S(c, b) of source 1: a, c and b
+abbrev pub join_of_two : ViewData
+join_of_two = record { relations = 0 ∷ 1 ∷ []; homes = 0 ∷ 1 ∷ []; equal = (at 0 1, at 1 1) ∷ []; conds = []; out = at 0 0 ∷ at 1 0 ∷ at 0 1 ∷ [] }
+
+-- source 0 with R and these transactions, source 1 with S and these, the join with its slots, one session
+abbrev pub two_sources : (slots : ℕ) (r s : List Codes) (first second : List Updates) → Script
+two_sources slots r s first second = record {
+  initial = table2 r ∷ table2 s ∷ [];
+  work = first ∷ second ∷ [];
+  views = with_slots slots join_of_two ∷ [];
+  versions = 2;
+  sessions = 1;
+}
+
+-- the rows of each view at a cut
+abbrev pub rows_at : Script → List ℕ → List (List Codes)
+rows_at s cut = map (λ v. value_at s v.view cut) s.views
+
+-- a transaction of source 1 goes all the way to the table, with a query to source 0
+abbrev pub whole_way : List Event
+whole_way = Commit 1 ∷ Integrate 1 ∷ Rel ∷ Manage 0 ∷ Answer 0 0 ∷ Integrate 0 ∷ Manage 0 ∷ Act 0 ∷ []
