@@ -1,4 +1,4 @@
--- What the values of views during a run are, as statements on the definitions. They speak of tuples and are proved with the core.
+-- What the values of views during a run are, as statements on the definitions.
 use Rattle.std.specs.Prelude.{◌≡◌, ℕ, max, ◌==◌, List, [], ◌∷◌, ◌++◌, length, take, drop, map, filter, fold, slice_get, Option, Some, None}
 use Rattle.std.specs.List.{AllByRecursion, flat_map}
 use Rattle.whips_model.specs.Members.{Has}
@@ -82,13 +82,13 @@ list_of_entry (Some (red j)) = j
 abbrev pub last_list : ℕ → List (List Row) → ℕ
 last_list x sets = fold max 0 (map (λ r. list_of_entry (slice_get r.entries x)) (flat_map (λ set. set) sets))
 
--- a view at the cut of a version is the view at its last list in that version; own. Proved with the core
+-- a view at the cut of a version is the view at its last list in that version; own. Not proved yet: it goes with the managers' invariant
 abbrev pub VersionIsValueAtLastList : Type 0
 VersionIsValueAtLastList = (s : Script) → IsValidScript s → (es : List Event) (x v : ℕ) (cut : List ℕ)
     → slice_get (version_cuts (after (facts_of s) (start (facts_of s)) es)) v ≡ Some cut
     → value_at s (view_at s x) (prefix_cut s (after (facts_of s) (start (facts_of s)) es) (last_list x (take v (all_taken_sets (facts_of s) (start (facts_of s)) es)))) ≡ value_at s (view_at s x) cut
 
--- where nothing is left on its way, the value of each view at the last cut is that of all transactions; own. Proved with the core
+-- where nothing is left on its way, the value of each view at the last cut is that of all transactions; own. Proved in whips_value_laws
 abbrev pub LastCutHasAll : Type 0
 LastCutHasAll = (s : Script) → IsValidScript s → (es : List Event) (x : ℕ)
     → first_enabled (facts_of s) (after (facts_of s) (start (facts_of s)) es) ≡ None

@@ -3,6 +3,7 @@
 #![tactic(auto)]
 
 ghost use Rattle.std.specs.Prelude.{◌≡◌, [], ◌∷◌};
+ghost use Rattle.whips_flow.specs.Painted.{closure};
 ghost use Rattle.whips_runs.specs.Records.{read, expired};
 ghost use Rattle.whips_runs.specs.World.{listed_records, start_world};
 ghost use Rattle.whips_runs.specs.Picks.{picked_events, picked_records};
@@ -10,6 +11,7 @@ ghost use Rattle.whips_facts.specs.ScriptFacts.{facts_of};
 ghost use Rattle.whips_vectors.specs.Scripts.{row2, row3, rows_at};
 ghost use Rattle.whips_vectors.specs.Races.{still, still_records, raced, raced_plan, raced_records, early_lists, early_lists_plan, early_lists_records, three_parts, three_parts_plan, three_parts_records, two_lives, two_lives_plan, two_lives_records, same_source, same_source_plan, same_source_records, other_source, other_source_plan, other_source_records, unconcerned, unconcerned_records, replaced, replaced_records, raced_transaction};
 ghost use Rattle.whips_vectors.specs.Readers.{growing, reader_plan, reader_records, early_reader_plan, early_reader_records, idle, idle_plan, idle_records, crowded, crowded_plan, crowded_records, vacated, vacated_plan, vacated_records, vacated_full_records};
+ghost use Rattle.whips_vectors.specs.Tables.{waiting_rows, covered_rows};
 ghost use Rattle.whips_vectors.specs.Shops.{shop, shop_records, shop_rows, picked_numbers, made, made_events, made_records};
 
 /// Without transactions there is version 0 with the initial rows, and nothing more.
@@ -122,4 +124,15 @@ pub fn picker_numbers()
 pub fn picked_turns()
     ensures events { picked_events 16 (facts_of made) 0 (start_world (facts_of made)) ≡ made_events }
     ensures records { picked_records (facts_of made) 0 16 ≡ made_records }
+{}
+
+/// A row whose list hasn't come needs the earlier rows that concern the view, and no later ones.
+pub fn waiting_row_needs_earlier_rows()
+    ensures last { closure waiting_rows 3 ≡ 1 ∷ 3 ∷ [] }
+    ensures first { closure waiting_rows 1 ≡ 1 ∷ [] }
+{}
+
+/// A row that a list covers needs all rows that this list covers.
+pub fn covered_row_needs_the_whole_list()
+    ensures { closure covered_rows 1 ≡ 1 ∷ 2 ∷ 3 ∷ [] }
 {}

@@ -1,0 +1,3 @@
+pub mod Commute
+pub mod Tails
+pub mod Whole
