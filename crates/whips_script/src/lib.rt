@@ -1,4 +1,7 @@
-//! Reads a script.
+//! Reads a script: the bytes of a JSON text become relations, transactions and a view, or are refused.
+//!
+//! This is the first form alone: one source with one relation of number columns, and one view of it. A text of another
+//! form, or one that is wrong in another way, is refused as `Unbuilt`, and one that is no JSON as `Syntax`.
 #![tactic(auto)]
 
 mod json;
@@ -8,6 +11,9 @@ mod script;
 mod source;
 mod text;
 mod view;
+
+#[cfg(test)]
+mod tests;
 
 use std::alloc::{AllocError, AllocFailed};
 use whips_rel::NoMemory;
