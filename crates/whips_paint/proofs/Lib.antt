@@ -1,0 +1,4 @@
+pub mod Entries
+pub mod Spreading
+pub mod Ready
+pub mod Tables

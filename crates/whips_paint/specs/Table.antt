@@ -1,0 +1,40 @@
+-- The painted table as it is seen by its callers.
+use Rattle.std.specs.Prelude.{◌≡◌, ℕ, ◌<◌, ◌≤◌, List, length, map, Option, Some, None, if◌then◌else◌}
+use Rattle.std.specs.List.{All, AllPairs}
+use Rattle.std.specs.Option.{option_map}
+use Rattle.whips_flow.specs.Lists.{places_from}
+use Rattle.whips_flow.specs.Painted.{Colour, black, white, Row, PaintedTable, has_number, closure, rows_without, lowest_ready}
+
+-- a painted table over a number of views
+pub record ViewTable : Type 0 where
+  pub views : ℕ
+  pub table : PaintedTable
+
+-- ---- a new row
+
+-- one entry per view: white where the view is concerned, black elsewhere
+abbrev pub new_entries : ℕ → List ℕ → List Colour
+new_entries views concerned = map (λ x. if has_number concerned x then white else black) (places_from 0 views)
+
+-- the row of a transaction that has just come; the table isn't told its place in its source, for which 0 stands
+abbrev pub new_row : ℕ → ℕ → ℕ → List ℕ → Row
+new_row views number source concerned = record { number = number; source = source; place = 0; entries = new_entries views concerned }
+
+-- ---- what each table keeps
+
+-- the rows stand in order of number, none above the last that came, with one entry per view
+pub record IsInOrder (t : ViewTable) : Type 0 where
+  pub rising : AllPairs (λ r q. r.number < q.number) t.table.rows
+  pub announced : All (λ r. r.number ≤ t.table.last_announced) t.table.rows
+  pub wide : All (λ r. length r.entries ≡ t.views) t.table.rows
+
+-- ---- what is taken
+
+-- the numbers of the rows that go together with the lowest ready row, where one is ready
+abbrev pub ready_numbers : List Row → Option (List ℕ)
+ready_numbers rows = option_map (λ r. closure rows r.number) (lowest_ready rows)
+
+-- the rows that stay when they are taken
+abbrev pub rows_left : Option (List ℕ) → List Row → List Row
+rows_left None rows = rows
+rows_left (Some numbers) rows = rows_without numbers rows

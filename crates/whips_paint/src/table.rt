@@ -1,0 +1,157 @@
+//! The painted table.
+ghost use Rattle.std.specs.Prelude.{◌≡◌, ◌<◌, ◌≤◌, [], length, IfOk, OnOk, OnErr, ◌≢◌};
+ghost use Rattle.std.specs.List.{All, AllPairs};
+ghost use Rattle.std.specs.Option.{option_map};
+ghost use Rattle.whips_flow.specs.Painted.{with_row, painted_rows};
+ghost use Rattle.whips_flow.specs.State.{new_table};
+ghost use Rattle.whips_paint.specs.Table.{ViewTable, IsInOrder, new_row, ready_numbers, rows_left};
+
+use crate::NoMemory;
+use crate::closure::{closure_numbers, first_ready, remove_rows};
+use crate::row::Row;
+use std::alloc::Global;
+use std::marker::Model;
+
+/// The numbered transactions that have come and haven't left, with one entry per view, and the
+/// number of the last that came.
+#[derive(Drop)]
+pub struct Table {
+    views: u32,
+    rows: Vec<Row>,
+    last_announced: u64,
+}
+
+impl Model for Table {
+    ghost use Rattle.whips_paint.specs.Table.{ViewTable, IsInOrder};
+
+    ghost Value = { ViewTable };
+
+    ghost view = { λ t. record { views = t.views; table = record { rows = t.rows.items; last_announced = t.last_announced } } };
+
+    ghost invariant = { λ t. IsInOrder (record { views = t.views; table = record { rows = t.rows.items; last_announced = t.last_announced } }) };
+}
+
+impl Table {
+    /// A table of `views` views with no row. No transaction has come, so the last number is 0.
+    pub fn new(alloc: Global, views: u32) -> Result<Table, NoMemory>
+        ensures { IfOk result (λ t. t ≡ record { views = views; table = new_table }) }
+    {
+        Ok(Table {
+            views,
+            rows: Vec::new(alloc),
+            last_announced: 0,
+        })
+    }
+
+    /// The number of the last transaction that came, also where it has left; 0 before the first.
+    pub fn told(&self) -> u64
+        ensures last { result ≡ self.now.table.last_announced }
+        ensures sound { IsInOrder self.now }
+    {
+        self.last_announced
+    }
+
+    /// Takes a transaction into the table: its entry is white for each concerned view, and black
+    /// for the others.
+    pub fn add_row(
+        &mut self,
+        number: u64,
+        source: u32,
+        concerned: &Vec<u32>,
+    ) -> Result<(), NoMemory>
+        requires above { self.old.table.last_announced < number }
+        requires some { 0 < length concerned.now.items }
+        requires there { All (λ x. x < self.old.views) concerned.now.items }
+        requires once { AllPairs (λ x y. x ≢ y) concerned.now.items }
+        ensures ok { OnOk result (self.new ≡ record self.old { table = with_row (new_row self.old.views number source concerned.now.items) self.old.table }) }
+        ensures err { OnErr result (self.new ≡ self.old) }
+    {
+        let row = Row::new(
+            *self.rows.allocator(),
+            number,
+            source,
+            self.views,
+            concerned,
+        )?;
+        self.rows.push(row)?;
+        self.last_announced = number;
+        Ok(())
+    }
+
+    /// Paints the list `upto` of a view: each white entry of the view in a row up to it becomes
+    /// red.
+    pub fn paint(&mut self, view: u32, upto: u64)
+        requires announced { upto ≤ self.old.table.last_announced }
+        requires there { view < self.old.views }
+        ensures { self.new ≡ record self.old { table = record self.old.table { rows = painted_rows view self.old.table.rows upto } } }
+    {
+        for row in self.rows.iter_mut() {
+            row.paint(view, upto);
+        }
+    }
+
+    /// Takes the lowest ready row and all rows that go with it out of the table, and answers their
+    /// numbers in order; `None` where no row is ready.
+    pub fn take_ready(&mut self) -> Result<Option<Vec<u64>>, NoMemory>
+        ensures taken { IfOk result (λ taken. option_map (λ v. v.items) taken ≡ ready_numbers self.old.table.rows) }
+        ensures left { OnOk result (self.new ≡ record self.old { table = record self.old.table { rows = rows_left (ready_numbers self.old.table.rows) self.old.table.rows } }) }
+        ensures err { OnErr result (self.new ≡ self.old) }
+    {
+        let alloc = *self.rows.allocator();
+        let Some(place) = first_ready(alloc, &self.rows)? else {
+            return Ok(None);
+        };
+        let numbers = closure_numbers(alloc, &self.rows, place)?;
+        remove_rows(&mut self.rows, &numbers);
+        Ok(Some(numbers))
+    }
+}
+
+#[cfg(test)]
+mod tests {
+    use super::*;
+    use std::process::Abort;
+    use std::test::Fail;
+
+    /// Takes the ready rows and compares their numbers; none are wanted where none is ready.
+    fn expect_taken(rt: &impl Abort, table: &mut Table, want: &[u64]) -> Result<(), Fail>
+        ensures views { OnOk result (table.new.views ≡ table.old.views) }
+        ensures last { OnOk result (table.new.table.last_announced ≡ table.old.table.last_announced) }
+    {
+        match table.take_ready()? {
+            Some(numbers) => assert_eq!(rt; numbers.as_slice(), want),
+            None => assert_eq!(rt; want.len(), 0),
+        }
+        Ok(())
+    }
+
+    #[test]
+    fn rows_of_different_views_leave_in_order(rt: HostRuntime) -> Result<(), Fail> {
+        let mut table = Table::new(rt.alloc(), 2)?;
+        assert_eq!(rt; table.told(), 0);
+        table.add_row(1, 0, &vec![in rt.alloc(); 0]?)?;
+        assert!(rt; table.told() < 2);
+        table.add_row(2, 0, &vec![in rt.alloc(); 1]?)?;
+        table.paint(1, 2);
+        expect_taken(&rt, &mut table, &[])?;
+        table.paint(0, 2);
+        expect_taken(&rt, &mut table, &[1])?;
+        expect_taken(&rt, &mut table, &[2])?;
+        expect_taken(&rt, &mut table, &[])?;
+        assert_eq!(rt; table.told(), 2);
+        Ok(())
+    }
+
+    #[test]
+    fn rows_of_one_list_leave_together(rt: HostRuntime) -> Result<(), Fail> {
+        let mut table = Table::new(rt.alloc(), 2)?;
+        table.add_row(1, 0, &vec![in rt.alloc(); 0, 1]?)?;
+        table.add_row(2, 1, &vec![in rt.alloc(); 0]?)?;
+        table.paint(0, 2);
+        expect_taken(&rt, &mut table, &[])?;
+        table.paint(1, 1);
+        expect_taken(&rt, &mut table, &[1, 2])?;
+        expect_taken(&rt, &mut table, &[])?;
+        Ok(())
+    }
+}

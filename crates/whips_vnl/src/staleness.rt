@@ -1,0 +1,56 @@
+//! Staleness of a session's version.
+ghost use Rattle.std.specs.Prelude.{◌≡◌, ℕ, ◌+◌, ◌-◌, ◌*◌, ◌≤◌, ◌↔◌, IsTrue};
+ghost use Rattle.whips_vnl.specs.Staleness.{IsStale};
+
+/// Whether a session at version `v` may read no more at `phase`, where `n` versions are kept.
+///
+/// The phase is twice the committed version, and 1 more while maintenance is active. The comparison
+/// is that of whole numbers, for every `v` and `phase`.
+pub fn stale(v: u64, phase: u64, n: u32) -> bool
+    requires least { 2 ≤ n }
+    requires most { n ≤ 4 }
+    ensures { IsTrue result ↔ IsStale n v phase }
+{
+    let kept = 2 * (u64::from(n) - 1);
+    phase > kept && (phase - kept - 1) / 2 >= v
+}
+
+/// A session at a version up to the committed one, `c`, isn't stale exactly where it is at most
+/// `n - 1` versions behind and no maintenance is active, or at most `n - 2` behind while it is.
+pub fn unexpired_versions()
+    ensures quiet { (n v c : ℕ) → 2 ≤ n → v ≤ c → (¬ IsStale n v (2 * c)) ↔ (c - (n - 1) ≤ v) }
+    ensures active { (n v c : ℕ) → 2 ≤ n → v ≤ c → (¬ IsStale n v (2 * c + 1)) ↔ (c - (n - 2) ≤ v) }
+{}
+
+#[cfg(test)]
+mod tests {
+    use super::*;
+
+    #[test]
+    fn expires_by_phase_and_kept_versions(rt: HostRuntime) {
+        let two = [false, false, false, true, true, true, true];
+        let three = [false, false, false, false, false, true, true];
+        let mut phase = 0;
+        for (with_two, with_three) in two.iter().zip(&three) {
+            assert_eq!(rt; stale(0, phase, 2), *with_two, "two versions at {phase}");
+            assert_eq!(rt;
+                stale(0, phase, 3),
+                *with_three,
+                "three versions at {phase}"
+            );
+            assert_eq!(rt; stale(0, phase, 4), false, "four versions at {phase}");
+            phase = phase.wrapping_add(1);
+        }
+        assert_eq!(rt; stale(0, 7, 4), true);
+        assert_eq!(rt; stale(1, 4, 2), false);
+        assert_eq!(rt; stale(1, 5, 2), true);
+    }
+
+    #[test]
+    fn is_exact_at_the_greatest_numbers(rt: HostRuntime) {
+        assert_eq!(rt; stale(u64::MAX, u64::MAX, 2), false);
+        assert_eq!(rt; stale(0, u64::MAX, 4), true);
+        assert_eq!(rt; stale(9_223_372_036_854_775_806, u64::MAX, 2), true);
+        assert_eq!(rt; stale(9_223_372_036_854_775_807, u64::MAX, 2), false);
+    }
+}
