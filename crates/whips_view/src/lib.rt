@@ -6,6 +6,7 @@ mod checks;
 mod concern;
 mod db;
 mod error;
+mod net;
 mod parts;
 mod view;
 mod walk;
