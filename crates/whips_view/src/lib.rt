@@ -8,6 +8,8 @@ mod db;
 mod error;
 mod net;
 mod parts;
+#[cfg(test)]
+mod tests;
 mod view;
 mod walk;
 

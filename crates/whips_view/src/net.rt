@@ -50,7 +50,12 @@ fn take_out(schema: &Schema, rows: &mut Vec<Tuple>, tuple: &Tuple)
 }
 
 /// Does what the update makes of the rows of this relation.
-fn leave(schema: &Schema, relation: u32, update: &Update, rows: &mut Vec<Tuple>) -> Result<(), NoMemory>
+fn leave(
+    schema: &Schema,
+    relation: u32,
+    update: &Update,
+    rows: &mut Vec<Tuple>,
+) -> Result<(), NoMemory>
     requires { IsKeyed schema.now.key rows.old.items }
     ensures rows { OnOk result (rows.new.items ≡ left_by relation schema.now.key rows.old.items update.now) }
     ensures keyed { OnOk result (IsKeyed schema.now.key rows.new.items) }
@@ -72,7 +77,12 @@ fn leave(schema: &Schema, relation: u32, update: &Update, rows: &mut Vec<Tuple>)
 }
 
 /// Undoes what the update made of the rows of this relation.
-fn find(schema: &Schema, relation: u32, update: &Update, rows: &mut Vec<Tuple>) -> Result<(), NoMemory>
+fn find(
+    schema: &Schema,
+    relation: u32,
+    update: &Update,
+    rows: &mut Vec<Tuple>,
+) -> Result<(), NoMemory>
     requires { IsKeyed schema.now.key rows.old.items }
     ensures rows { OnOk result (rows.new.items ≡ found_by relation schema.now.key update.now rows.old.items) }
     ensures keyed { OnOk result (IsKeyed schema.now.key rows.new.items) }
@@ -94,7 +104,12 @@ fn find(schema: &Schema, relation: u32, update: &Update, rows: &mut Vec<Tuple>) 
 }
 
 /// Does what the updates make of the rows of this relation, one after another.
-fn leave_all(schema: &Schema, relation: u32, updates: &[Update], rows: &mut Vec<Tuple>) -> Result<(), NoMemory>
+fn leave_all(
+    schema: &Schema,
+    relation: u32,
+    updates: &[Update],
+    rows: &mut Vec<Tuple>,
+) -> Result<(), NoMemory>
     requires { IsKeyed schema.now.key rows.old.items }
     ensures { OnOk result (rows.new.items ≡ fold (left_by relation schema.now.key) rows.old.items updates.now) }
 {
@@ -108,7 +123,12 @@ fn leave_all(schema: &Schema, relation: u32, updates: &[Update], rows: &mut Vec<
 }
 
 /// Undoes what the updates made of the rows of this relation, the last one first.
-fn find_all(schema: &Schema, relation: u32, updates: &[Update], rows: &mut Vec<Tuple>) -> Result<(), NoMemory>
+fn find_all(
+    schema: &Schema,
+    relation: u32,
+    updates: &[Update],
+    rows: &mut Vec<Tuple>,
+) -> Result<(), NoMemory>
     requires { rows.old.items ≡ [] }
     ensures rows { OnOk result (rows.new.items ≡ deleted relation schema.now.key updates.now) }
     ensures keyed { OnOk result (IsKeyed schema.now.key rows.new.items) }
@@ -123,7 +143,12 @@ fn find_all(schema: &Schema, relation: u32, updates: &[Update], rows: &mut Vec<T
 }
 
 /// Adds each row that meets the part, beside its part.
-fn add_given(view: &ViewDef, part: u32, rows: &[Tuple], given: &mut Vec<(u32, Tuple)>) -> Result<(), NoMemory>
+fn add_given(
+    view: &ViewDef,
+    part: u32,
+    rows: &[Tuple],
+    given: &mut Vec<(u32, Tuple)>,
+) -> Result<(), NoMemory>
     ensures { OnOk result (given.new.items ≡ given.old.items ++ map (λ x. (part, x)) (filter (meets_part view.now.parts part) rows.now)) }
 {
     for row in rows {
@@ -146,7 +171,13 @@ fn codes_at(alloc: Global, columns: &[u32], tuple: &Tuple) -> Result<Tuple, NoMe
 }
 
 /// Adds the key of each row that meets the part, beside its part.
-fn add_taken(view: &ViewDef, part: u32, key: &[u32], rows: &[Tuple], taken: &mut Vec<(u32, Tuple)>) -> Result<(), NoMemory>
+fn add_taken(
+    view: &ViewDef,
+    part: u32,
+    key: &[u32],
+    rows: &[Tuple],
+    taken: &mut Vec<(u32, Tuple)>,
+) -> Result<(), NoMemory>
     ensures { OnOk result (taken.new.items ≡ taken.old.items ++ map (λ x. (part, x)) (map (at_columns key.now) (filter (meets_part view.now.parts part) rows.now))) }
 {
     for row in rows {
@@ -158,7 +189,12 @@ fn add_taken(view: &ViewDef, part: u32, key: &[u32], rows: &[Tuple], taken: &mut
 }
 
 /// Adds what the transaction gives this part.
-fn give(view: &ViewDef, part: u32, updates: &[Update], given: &mut Vec<(u32, Tuple)>) -> Result<(), NoMemory>
+fn give(
+    view: &ViewDef,
+    part: u32,
+    updates: &[Update],
+    given: &mut Vec<(u32, Tuple)>,
+) -> Result<(), NoMemory>
     requires { part < length view.now.bases }
     ensures { OnOk result (given.new.items ≡ given.old.items ++ map (λ x. (part, x)) (given_at (keyed view.now) updates.now part)) }
 {
@@ -169,7 +205,12 @@ fn give(view: &ViewDef, part: u32, updates: &[Update], given: &mut Vec<(u32, Tup
 }
 
 /// Adds what the transaction takes from this part.
-fn take(view: &ViewDef, part: u32, updates: &[Update], taken: &mut Vec<(u32, Tuple)>) -> Result<(), NoMemory>
+fn take(
+    view: &ViewDef,
+    part: u32,
+    updates: &[Update],
+    taken: &mut Vec<(u32, Tuple)>,
+) -> Result<(), NoMemory>
     requires { part < length view.now.bases }
     ensures { OnOk result (taken.new.items ≡ taken.old.items ++ map (λ x. (part, x)) (taken_at (keyed view.now) updates.now part)) }
 {
