@@ -1,3 +1,4 @@
 pub mod Checked
 pub mod Walked
 pub mod Valued
+pub mod Netted

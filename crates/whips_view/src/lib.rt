@@ -6,7 +6,10 @@ mod checks;
 mod concern;
 mod db;
 mod error;
+mod net;
 mod parts;
+#[cfg(test)]
+mod tests;
 mod view;
 mod walk;
 

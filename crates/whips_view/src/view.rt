@@ -95,8 +95,15 @@ impl ViewDef {
     }
 
     /// The allocator of the view's lists.
-    fn alloc(&self) -> Global {
+    pub(crate) fn alloc(&self) -> Global {
         *self.bases.allocator()
+    }
+
+    /// The number of relations.
+    pub(crate) fn width(&self) -> u32
+        ensures { result ≡ length self.now.bases }
+    {
+        self.parts().relations().len() as u32
     }
 
     /// The view's value on all relations by number: the row of each choice of one tuple per relation that meets all

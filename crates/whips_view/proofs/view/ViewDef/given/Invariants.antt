@@ -1,0 +1,7 @@
+use Rattle.std.proofs.Common.{◌≡◌}
+use Rattle.whips_states.specs.Net.{by_part, given_at}
+use Rattle.whips_view.specs.ViewDefs.{keyed}
+use Rattle.whips_view.proofs.view.ViewDef.given.Given as goal
+
+abbrev pub invariant-loop-part : goal.invariant-loop-part
+invariant-loop-part l = l.tuples.items ≡ by_part l.part (given_at (keyed l.self) l.t)
