@@ -1,0 +1,5 @@
+pub mod Fills
+pub mod Stepping
+pub mod Whole
+pub mod Found
+pub mod Unconcerned
