@@ -1,3 +1,4 @@
 pub mod Ordered
 pub mod Stepped
 pub mod Extended
+pub mod Worked

@@ -1,19 +1,20 @@
 -- All steps of a query on one state.
 use Rattle.std.proofs.Common.{◌≡◌, ◌≢◌, ◌⊎◌, ◌↔◌, inl, inr, ℕ, zero, suc, ◌+◌, ◌<◌, ◌≤◌, Bool, true, Some, None, is_some, List, [], ◌∷◌, length, map, get_or, refl, sym, ap, subst, ◌∙◌, arith, eq-eqb, ne_eqb}
+use Rattle.std.specs.List.{AllByRecursion}
 use Rattle.std.proofs.lemmas.Bool.{cases_eq}
 use Rattle.whips_model.specs.Tuples.{Codes}
 use Rattle.whips_model.specs.Views.{Choice, meets}
 use Rattle.whips_model.specs.Members.{Has}
 use Rattle.whips_choices.specs.KeyedViews.{KeyedView, IsKeyedView, AreTables, IsChoiceOf}
 use Rattle.whips_choices.specs.Partials.{Partial, slot, seed, meets_on, extended}
-use Rattle.whips_model.proofs.Members.{has_first, has_later, has_none, has_same, has_before, has_mapped}
+use Rattle.whips_model.proofs.Members.{has_first, has_later, has_none, has_same, has_before, has_mapped, all_from_has}
 use Rattle.whips_choices.proofs.Parts.{seed_width, seed_at, seed_other, seed_part}
 use Rattle.whips_choices.proofs.Rows.{same_row}
 use Rattle.whips_states.specs.Concerns.{meets_part}
 use Rattle.whips_trans_laws.proofs.Alone.{meets_is}
 use Rattle.whips_steps.specs.Steps.{asked_sources, step_parts, is_filled}
-use Rattle.whips_steps.specs.Answers.{projected, answers_from, whole_answer, unstruck, AreDistinct, DifferInKey, AllDifferInKey}
-use Rattle.whips_steps.specs.Laws.{IsSeededRow, StepsFind}
+use Rattle.whips_steps.specs.Answers.{projected, answers_from, whole_answer, unstruck, AreDistinct, IsWhole, DifferInKey, AllDifferInKey}
+use Rattle.whips_steps.specs.Laws.{IsSeededRow, StepsFind, AnswersAreWhole}
 use Rattle.whips_steps.proofs.Fills.{IsFilling, IsFound, with_all, fill_all, found_all}
 use Rattle.whips_steps.proofs.Stepping.{parts_distinct, parts_free, filled_next, all_filled, filled_first}
 use Rattle.whips_steps.proofs.Whole.{found_seeded, in_found}
@@ -95,6 +96,12 @@ module _ (v : KeyedView) (is : IsKeyedView v) (tables : List (List Codes)) (good
     full : (j : ℕ) → j < length v.keys → is_filled v origin (1 + length (asked_sources v origin)) j ≡ true
     full = all_filled v origin (1 + length (asked_sources v origin)) (omega arith)
 
+    pub whole : AllByRecursion (IsWhole (length v.keys)) (whole_answer v tables origin seeds)
+    whole = all_from_has (IsWhole (length v.keys)) (whole_answer v tables origin seeds) (λ p h. record { width = filling.width p h; filled = λ part below. filling.filled p part h below ∙ full part below })
+
+    pub differ : AllDifferInKey v.keys (whole_answer v tables origin seeds)
+    differ = filling.differ
+
     pub both : (r : Codes) → Has r (projected v (whole_answer v tables origin seeds)) ↔ IsSeededRow v tables origin seeds r
     both r = (forth, back)
       where
@@ -117,3 +124,6 @@ module _ (v : KeyedView) (is : IsKeyedView v) (tables : List (List Codes)) (good
 
 pub finds : StepsFind
 finds v tables origin seeds is good lt distinct there concern r = both v is tables good origin lt seeds distinct there concern r
+
+pub wholes : AnswersAreWhole
+wholes v tables origin seeds is good lt distinct there concern = (whole v is tables good origin lt seeds distinct there concern, differ v is tables good origin lt seeds distinct there concern)
