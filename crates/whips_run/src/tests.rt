@@ -7,6 +7,10 @@ use whips_io::{MemSink, MemSource, NoMemory};
 const ONE_ROW: &[u8] =
     br#"{"sources":[{"name":"A","relations":[{"name":"R","columns":[["a","number"],["b","number"]],"key":["a"],"rows":[[1,5]]}]}],"views":[{"name":"W","relations":["R"],"out":["R.a","R.b"]}]}"#;
 
+/// Two sources with a join, slots and a session, which is no script of the first form.
+const TWO_SOURCES: &[u8] =
+    br#"{"sources":[{"name":"A","relations":[{"name":"R","columns":[["a","number"],["b","number"]],"key":["a"],"rows":[]}],"updates":[]},{"name":"B","relations":[{"name":"S","columns":[["c","number"],["b","number"]],"key":["c"],"rows":[]}],"updates":[]}],"views":[{"name":"V","relations":["R","S"],"equal":[["R.b","S.b"]],"out":["R.a","S.c","R.b"],"slots":4}],"sessions":["s"]}"#;
+
 /// The words as owned texts.
 fn words_of(alloc: Global, words: &[&str]) -> Result<Vec<String>, AllocError> {
     let mut owned = Vec::new(alloc);
@@ -76,6 +80,7 @@ fn bad_input_is_refused(rt: HostRuntime) -> Result<(), Fail> {
         (b"\"\xff\"".as_slice(), syntax),
         (b"{}".as_slice(), unbuilt),
         (br#"{"sources":[],"views":[]}"#.as_slice(), unbuilt),
+        (TWO_SOURCES, unbuilt),
     ];
     for (text, wanted) in cases {
         let (status, output) = run_on(rt.alloc(), &["run"], text, 0, 0)?;
