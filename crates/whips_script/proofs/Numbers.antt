@@ -1,18 +1,18 @@
 -- The updates that are read are those of relation 0, and all of them together make the final state.
-use Rattle.std.proofs.Common.{◌≡◌, ℕ, Bool, true, false, cond, List, [], ◌∷◌, length, map, take, Option, Some, None, refl, sym, ap, ◌∙◌}
-use Rattle.std.specs.Prelude.{option_and_then, fold, codes, if◌then◌else◌}
+use Rattle.std.proofs.Common.{◌≡◌, Bool, true, false, List, [], ◌∷◌, length, take, Option, Some, None, refl, sym, ap, ◌∙◌}
+use Rattle.std.specs.Prelude.{option_and_then, codes, if◌then◌else◌}
 use Rattle.std.specs.Option.{option_map, option_map_or}
 use Rattle.std.specs.List.{AllByRecursion}
 use Rattle.std.specs.Str.{bytes_eq}
 use Rattle.serde_json.specs.Data.{Data}
 use Rattle.serde_json.specs.Find.{as_str}
-use Rattle.whips_model.specs.Tuples.{Codes, Columns, at_columns, put_row, without_key}
+use Rattle.whips_model.specs.Tuples.{Codes, Columns}
 use Rattle.whips_model.specs.Relation.{Table, value_of}
 use Rattle.whips_model.specs.Views.{ViewData}
 use Rattle.whips_rel.specs.declared.update.Update.{Update}
 use Rattle.whips_rel.specs.declared.update.Update.TheVariants.{Insert, Delete}
 use Rattle.whips_rel.specs.Updates.{relation_of}
-use Rattle.whips_states.specs.States.{updated, applied, all_applied, state_at}
+use Rattle.whips_states.specs.States.{updated, all_applied, state_at}
 use Rattle.whips_script.specs.Json.{Text, elements, elements_within, is_text}
 use Rattle.whips_script.specs.Rows.{new_row_in, named_row_in, update_of, update_from, update_in, rows_after, updates_from, updates_in, rows_after_all}
 use Rattle.whips_script.specs.Script.{transactions_of}

@@ -1,9 +1,8 @@
 -- A source with its one relation.
-use Rattle.std.specs.Prelude.{ℕ, List, [], ◌∷◌, length, map, replicate, codes, Option, Some, None, option_and_then, if◌then◌else◌}
+use Rattle.std.specs.Prelude.{ℕ, List, [], ◌∷◌, length, replicate, codes, Option, None, option_and_then, if◌then◌else◌}
 use Rattle.std.specs.Option.{option_map}
 use Rattle.serde_json.specs.Data.{Data}
 use Rattle.serde_json.specs.Find.{get}
-use Rattle.whips_model.specs.declared.Kind.{Kind}
 use Rattle.whips_model.specs.declared.Kind.TheVariants.{Number}
 use Rattle.whips_model.specs.Tuples.{Columns}
 use Rattle.whips_model.specs.Relation.{Table}

@@ -1,5 +1,5 @@
 -- What a script is, and which bytes are one.
-use Rattle.std.specs.Prelude.{ℕ, Bool, false, List, [], ◌∷◌, length, map, codes, nat_le, Option, Some, None, Result, Ok, Err, option_and_then, is_some, if◌then◌else◌}
+use Rattle.std.specs.Prelude.{ℕ, Bool, false, List, [], ◌∷◌, length, map, codes, nat_le, Option, Some, None, Result, Err, option_and_then, is_some, if◌then◌else◌}
 use Rattle.std.specs.Option.{option_map, ok_or}
 use Rattle.serde_json.specs.Data.{Data}
 use Rattle.whips_model.specs.Relation.{Table, value_of}

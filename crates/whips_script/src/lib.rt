@@ -9,17 +9,15 @@ mod relation;
 mod rows;
 mod script;
 mod source;
+#[cfg(test)]
+mod tests;
 mod text;
 mod view;
 
-#[cfg(test)]
-mod tests;
-
-use std::alloc::{AllocError, AllocFailed};
-use whips_rel::NoMemory;
-
 pub use script::{Script, ScriptErr, read_script};
+use std::alloc::{AllocError, AllocFailed};
 pub use text::Text;
+use whips_rel::NoMemory;
 
 /// Why a text isn't a script.
 #[derive(Clone, Copy, Debug, PartialEq, Eq)]

@@ -8,7 +8,9 @@ ghost use Rattle.whips_script.specs.Json.{each};
 ghost use Rattle.whips_script.specs.Names.{place_in, place_of, qualified};
 ghost use Rattle.whips_script.specs.Relations.{column_in, columns_in, key_in, relation_in, only_relation_in};
 
-use crate::json::{ObjectForm, elements, elements_within, is_object_of, is_text, member, only_element};
+use crate::json::{
+    ObjectForm, elements, elements_within, is_object_of, is_text, member, only_element,
+};
 use crate::rows::read_rows;
 use crate::text::{are_distinct, are_distinct_places};
 use crate::{ReadErr, Text};

@@ -6,9 +6,8 @@ ghost use Rattle.serde_json.specs.Find.{as_str};
 ghost use Rattle.whips_model.specs.Tuples.{at_columns, put_row, without_key};
 ghost use Rattle.whips_script.specs.Rows.{number_in, codes_in, new_row_in, named_row_in, rows_added, rows_in, update_in, update_of, rows_after, updates_from, updates_in, rows_after_all};
 
-use crate::ReadErr;
 use crate::json::{elements, elements_within, is_text};
-use crate::Text;
+use crate::{ReadErr, Text};
 use serde_json::Value;
 use std::alloc::Global;
 use whips_rel::{InsertErr, Relation, Tuple, Update};

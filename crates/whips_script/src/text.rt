@@ -99,9 +99,7 @@ fn is_name(bytes: &[u8]) -> bool
 {
     match bytes {
         [] => false,
-        [first, rest @ ..] => {
-            is_letter(*first) && rest.len() < 32 && are_name_bytes(rest)
-        }
+        [first, rest @ ..] => { is_letter(*first) && rest.len() < 32 && are_name_bytes(rest) }
     }
 }
 

@@ -1,24 +1,23 @@
 -- What a transaction makes of a relation, key by key.
-use Rattle.std.proofs.Common.{◌≡◌, ◌≢◌, ◌⊎◌, inl, inr, ◌↔◌, ℕ, ◌==◌, ◌&&◌, Bool, true, false, cond, not, Option, Some, None, is_some, List, [], ◌∷◌, map, find, fold, slice_get, refl, sym, ap, ap₂, subst, ◌∙◌, eqb-true, eq-eqb}
+use Rattle.std.proofs.Common.{◌≡◌, ◌≢◌, ◌⊎◌, inl, inr, ℕ, ◌==◌, ◌&&◌, Bool, true, false, cond, not, Option, Some, None, is_some, List, [], ◌∷◌, map, fold, slice_get, refl, sym, ap, ap₂, subst, ◌∙◌, eqb-true, eq-eqb}
 use Rattle.std.specs.List.{filter}
 use Rattle.std.specs.Option.{option_or}
 use Rattle.std.proofs.lemmas.Bool.{and_parts, cases_eq, ne_eqb}
 use Rattle.whips_model.specs.Members.{Has}
 use Rattle.whips_model.specs.Tuples.{Codes, at_columns, has_key, row_at, put_row, without_key, IsKeyed}
-use Rattle.whips_model.specs.Relation.{Table, IsTable}
+use Rattle.whips_model.specs.Relation.{Table}
 use Rattle.whips_model.proofs.Keyed.{keyed_put, keyed_filter}
 use Rattle.whips_model.proofs.Members.{has_passing, has_mapped}
-use Rattle.whips_choices.specs.KeyedViews.{KeyedView, part_key}
+use Rattle.whips_choices.specs.KeyedViews.{part_key}
 use Rattle.whips_choices.specs.Edits.{put_rows}
 use Rattle.whips_choices.proofs.Rows.{key_is, row_found}
 use Rattle.whips_rel.specs.declared.update.Update.{Update}
 use Rattle.whips_rel.specs.declared.update.Update.TheVariants.{Insert, Delete}
-use Rattle.whips_rel.specs.Updates.{relation_of, tuple_of}
-use Rattle.whips_states.specs.States.{Updates, with_row, without_row, updated, applied, IsValid, AreValid, AreSoundTables}
+use Rattle.whips_states.specs.States.{Updates, with_row, without_row, updated, applied, IsValid, AreValid}
 use Rattle.whips_states.specs.Concerns.{meets_part}
-use Rattle.whips_states.specs.Net.{left_by, found_by, inserted, deleted, names, first_of_key, last_of_key, or_else, given_at, taken_at, relation_at}
+use Rattle.whips_states.specs.Net.{left_by, found_by, inserted, deleted, names, first_of_key, last_of_key, or_else, relation_at}
 use Rattle.whips_states.specs.Laws.{without_keys, NetRows, InsertedLast, DeletedFirst, OthersMiss}
-use Rattle.whips_states.proofs.Changed.{changed_same, changed_other, sound_at, update_sound, tables_stay}
+use Rattle.whips_states.proofs.Changed.{changed_same, changed_other, sound_at, tables_stay}
 use Rattle.whips_trans_laws.proofs.ByKey.{at_put, without_row as at_without, row_of_key, same_by_key, puts_row, keys_row, puts_keyed, keys_keyed}
 
 -- the row of the key after an update of it, and before it
@@ -219,21 +218,21 @@ net_rows db t r table sound valid there =
     let keyed = (sound_at (applied db t) r (record table { rows = fold (left_by r table.columns.key) table.rows t }) (tables_stay db t sound valid) after).keyed in
     let before = (sound_at db r table sound there).keyed in
     after ∙ ap (λ l. Some (record table { rows = l })) (same_by_key cols (fold (left_by r cols) table.rows t)
-        (put_rows cols (inserted r cols t) (without_keys cols (map (at_columns cols) (deleted r cols t)) table.rows))
-        keyed
-        (puts_keyed cols (inserted r cols t) (without_keys cols (map (at_columns cols) (deleted r cols t)) table.rows) (keys_keyed cols (map (at_columns cols) (deleted r cols t)) table.rows before))
-        (λ k.
-            fold_row r cols k table.rows t
-            ∙ whole_row r cols k t (row_at cols k table.rows) (first_fits db t r table k there valid)
-            ∙ ap₂ (λ a b. option_or a (cond (is_some b) None (row_at cols k table.rows))) (sym (fold_row r cols k [] t)) (sym (deleted_row r cols k t))
-            ∙ ap (option_or (row_at cols k (inserted r cols t))) (sym (keys_row cols k (deleted r cols t) table.rows))
-            ∙ sym (puts_row cols k (inserted r cols t) (without_keys cols (map (at_columns cols) (deleted r cols t)) table.rows) (fold_keyed r cols [] t tt))))
+    (put_rows cols (inserted r cols t) (without_keys cols (map (at_columns cols) (deleted r cols t)) table.rows))
+    keyed
+    (puts_keyed cols (inserted r cols t) (without_keys cols (map (at_columns cols) (deleted r cols t)) table.rows) (keys_keyed cols (map (at_columns cols) (deleted r cols t)) table.rows before))
+    (λ k.
+    fold_row r cols k table.rows t
+    ∙ whole_row r cols k t (row_at cols k table.rows) (first_fits db t r table k there valid)
+    ∙ ap₂ (λ a b. option_or a (cond (is_some b) None (row_at cols k table.rows))) (sym (fold_row r cols k [] t)) (sym (deleted_row r cols k t))
+    ∙ ap (option_or (row_at cols k (inserted r cols t))) (sym (keys_row cols k (deleted r cols t) table.rows))
+    ∙ sym (puts_row cols k (inserted r cols t) (without_keys cols (map (at_columns cols) (deleted r cols t)) table.rows) (fold_keyed r cols [] t tt))))
 
 pub others_miss : OthersMiss
 others_miss v t part s = (
-    λ h. go (meets_part v.base part s) refl (λ e. has_passing (meets_part v.base part) s (inserted (relation_at v part) (part_key v part) t) e h),
-    λ h. go (meets_part v.base part s) refl (λ e. has_mapped (at_columns (part_key v part)) s (filter (meets_part v.base part) (deleted (relation_at v part) (part_key v part) t)) (has_passing (meets_part v.base part) s (deleted (relation_at v part) (part_key v part) t) e h)),
-  )
+  λ h. go (meets_part v.base part s) refl (λ e. has_passing (meets_part v.base part) s (inserted (relation_at v part) (part_key v part) t) e h),
+  λ h. go (meets_part v.base part s) refl (λ e. has_mapped (at_columns (part_key v part)) s (filter (meets_part v.base part) (deleted (relation_at v part) (part_key v part) t)) (has_passing (meets_part v.base part) s (deleted (relation_at v part) (part_key v part) t) e h)),
+)
   where
     go : {P : Type 0} → (b : Bool) → meets_part v.base part s ≡ b → (meets_part v.base part s ≡ true → P) → P ⊎ (meets_part v.base part s ≡ false)
     go true e f = inl (f e)

@@ -1,6 +1,6 @@
 use Rattle.std.proofs.Common.{rules}
 use Rattle.std.proofs.lemmas.Fn.{always_returns_same}
-use Rattle.whips_model.specs.Tuples.{codes_cmp, at_columns, IsKeyed}
+use Rattle.whips_model.specs.Tuples.{codes_cmp, at_columns}
 use Rattle.whips_model.proofs.Keyed.{searched, finds_or_misses}
 use Rattle.whips_view.proofs.net.place.Goals as goal
 
