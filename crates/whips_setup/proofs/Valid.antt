@@ -17,7 +17,7 @@ use Rattle.whips_setup.specs.declared.error.BatchErr.TheVariants.{Foreign, Prese
 use Rattle.whips_setup.specs.declared.validity.ItemPlace.{ItemPlace}
 use Rattle.whips_setup.specs.Setups.{SetupData}
 use Rattle.whips_setup.specs.Limits.{is_source}
-use Rattle.whips_setup.specs.Workloads.{is_of_width, is_of_numbers, is_update_within, is_transaction_within, has_width, is_row, row_refusal, refusal_in, update_refusal, transaction_refusal, list_refusal, lists_refusal, is_list_within, IsWorkload}
+use Rattle.whips_setup.specs.Workloads.{is_of_width, is_of_numbers, is_update_within, is_transaction_within, has_width, is_row, row_refusal, refusal_in, update_refusal, transaction_refusal, list_refusal, lists_refusal, is_list_within, AreOwn, IsWorkload}
 
 -- all tuples of the transactions have the widths of their relations
 abbrev pub have_widths : List Table → List Updates → Bool
@@ -154,11 +154,36 @@ valid_lists s source (list ∷ work) e w =
     let widths = and_parts (have_widths s.initial list) (list_all (have_widths s.initial) work) w in
     (valid_list s.homes source 1 s.initial list parts.0 widths.0, valid_lists s (suc source) work parts.1 widths.1)
 
+home_is : (source : ℕ) (o : Option ℕ) → is_source source o ≡ true → o ≡ Some source
+home_is source None e = absurd (cc)
+home_is source (Some home) e = ap Some (eqb-true home source e)
+
+own_transaction : (homes : List ℕ) (at : ItemPlace) (db : List Table) (t : Updates) → transaction_refusal homes at db t ≡ None → AllByRecursion (λ u. slice_get homes (relation_of u) ≡ Some at.source) t
+own_transaction homes at db [] e = tt
+own_transaction homes at db (u ∷ t) e =
+    let next : ItemPlace = record at { item = suc at.item } in
+    let parts = or_none (update_refusal homes at db u) (transaction_refusal homes next (updated db u) t) e in
+    let test = passed (is_source at.source (slice_get homes (relation_of u))) (Foreign at.source at.place at.item) (refusal_in at (slice_get db (relation_of u)) u) parts.0 in
+    (home_is at.source (slice_get homes (relation_of u)) test.0, own_transaction homes next (updated db u) t parts.1)
+
+own_list : (homes : List ℕ) (source place : ℕ) (db : List Table) (list : List Updates) → list_refusal homes source place db list ≡ None → AllByRecursion (AllByRecursion (λ u. slice_get homes (relation_of u) ≡ Some source)) list
+own_list homes source place db [] e = tt
+own_list homes source place db (t ∷ list) e =
+    let at : ItemPlace = record { source = source; place = place; item = 1 } in
+    let parts = or_none (transaction_refusal homes at db t) (list_refusal homes source (suc place) (applied db t) list) e in
+    (own_transaction homes at db t parts.0, own_list homes source (suc place) (applied db t) list parts.1)
+
+own_lists : (s : SetupData) (source : ℕ) (work : List (List Updates)) → lists_refusal s source work ≡ None → AreOwn s.homes source work
+own_lists s source [] e = tt
+own_lists s source (list ∷ work) e =
+    let parts = or_none (list_refusal s.homes source 1 s.initial list) (lists_refusal s (suc source) work) e in
+    (own_list s.homes source 1 s.initial list parts.0, own_lists s (suc source) work parts.1)
+
 -- a workload that isn't refused is valid
 pub is_workload : (s : SetupData) (work : List (List Updates)) → length work ≡ s.sources → list_all (is_list_within s.initial) work ≡ true → lists_refusal s 0 work ≡ None → IsWorkload s work
 is_workload s work count within e =
     let counted : (length work == s.sources) ≡ true = eq-eqb (length work) s.sources count in
-    record { accepted = rw (counted, within) e; valid = valid_lists s 0 work e (lists_wide s.initial work within) }
+    record { accepted = rw (counted, within) e; own = own_lists s 0 work e; valid = valid_lists s 0 work e (lists_wide s.initial work within) }
 
 -- ---- an update that is made in its relation
 
@@ -169,10 +194,6 @@ on_ok (Err e) P Q f p = tt
 if_err : (r : Result (Unit {0}) BatchErr) (P Q : BatchErr → Type 0) → ((e : BatchErr) → P e → Q e) → IfErr r P → IfErr r Q
 if_err (Ok x) P Q f p = tt
 if_err (Err e) P Q f p = f e p
-
-home_is : (source : ℕ) (o : Option ℕ) → is_source source o ≡ true → o ≡ Some source
-home_is source None e = absurd (cc)
-home_is source (Some home) e = ap Some (eqb-true home source e)
 
 module _ (homes : List ℕ) (at : ItemPlace) (db : List Table) (u : Update) (n q : ℕ) (t : Codes) (table after : Table) (r : Result (Unit {0}) BatchErr)
     (number : n ≡ relation_of u) (lengths : length homes ≡ length db) (source : is_source at.source (slice_get homes n) ≡ true) (value : table ≡ get_or db n table) where

@@ -86,9 +86,15 @@ lists_refusal s source (list ∷ work) = option_or (list_refusal s.homes source 
 abbrev pub work_refusal : SetupData → List (List Updates) → Option BatchErr
 work_refusal s work = cond (is_work_within s work) (lists_refusal s 0 work) (Some Limit)
 
--- What a workload keeps: none of the refusals holds, and the transactions of each source are valid in turn.
+-- Each source, of which the first here has this number, updates its own relations alone.
+abbrev pub AreOwn : List ℕ → ℕ → List (List Updates) → Type 0
+AreOwn homes source [] = Unit {0}
+AreOwn homes source (list ∷ work) = AllByRecursion (AllByRecursion (λ u. slice_get homes (relation_of u) ≡ Some source)) list × AreOwn homes (suc source) work
+
+-- What a workload keeps: none of the refusals holds, each source updates its own relations alone, and its transactions are valid in turn.
 pub record IsWorkload (s : SetupData) (work : List (List Updates)) : Type 0 where
   pub accepted : work_refusal s work ≡ None
+  pub own : AreOwn s.homes 0 work
   pub valid : AllByRecursion (AreAllValid s.initial) work
 
 -- The workload is one of some setup.
