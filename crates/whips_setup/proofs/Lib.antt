@@ -1,0 +1,4 @@
+mod Bases
+mod Made
+mod Valid
+mod Turns

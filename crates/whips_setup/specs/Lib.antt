@@ -1,0 +1,4 @@
+pub mod Setups
+pub mod Limits
+pub mod Refusals
+pub mod Workloads
