@@ -1,4 +1,3 @@
 pub mod Checked
-pub mod Walked
 pub mod Valued
 pub mod Netted

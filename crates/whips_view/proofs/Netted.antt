@@ -10,7 +10,7 @@ use Rattle.whips_model.specs.Search.{IsRowAt}
 use Rattle.whips_model.proofs.Keyed.{greater_from_less, all_at}
 use Rattle.whips_choices.proofs.Rows.{codes_equal, codes_tied}
 use Rattle.whips_states.specs.Net.{by_part}
-use Rattle.whips_view.proofs.Walked.{take_next}
+use Rattle.whips_value.proofs.Walked.{take_next}
 
 -- a tuple in the place of the row with its key
 pub set_is_put : (cols : List ℕ) (t : Codes) (rows : List Codes) (i : ℕ) → IsKeyed cols rows → IsRowAt cols rows (at_columns cols t) i → set rows i t ≡ put_row cols t rows

@@ -1,3 +1,2 @@
 pub mod ViewDefs
 pub mod Refusals
-pub mod Walks

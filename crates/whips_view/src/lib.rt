@@ -7,14 +7,12 @@ mod concern;
 mod db;
 mod error;
 mod net;
-mod parts;
 #[cfg(test)]
 mod tests;
 mod view;
-mod walk;
 
 pub use db::Db;
 pub use error::ViewErr;
-pub use parts::{Conds, Equalities, Outs, ViewParts};
 pub use view::ViewDef;
 pub use whips_model::{Cmp, ColRef, Cond, Kind};
+pub use whips_value::{Conds, Equalities, Outs, ViewParts};

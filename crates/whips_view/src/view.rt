@@ -11,12 +11,12 @@ use crate::checks::{
     check_conds, check_equal, check_keys, check_limits, check_once, check_out, check_relations,
     join_one_kind, kind_at, test_own_kind,
 };
-use crate::walk::value_rows;
 use crate::{Db, ViewErr, ViewParts};
 use std::alloc::Global;
 use std::marker::Model;
 use whips_model::{ColRef, Kind};
 use whips_rel::{Kinds, NoMemory, Places, Relation, Rows, Schema};
+use whips_value::value_rows;
 
 /// A view over several relations, seen as its parts and the columns of its relations.
 #[derive(Drop)]
