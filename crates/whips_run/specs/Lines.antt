@@ -6,7 +6,7 @@ use Rattle.serde_json.specs.Data.{Data, number, unsigned, array}
 use Rattle.serde_json.specs.View.{items_of}
 use Rattle.serde_json.specs.Written.{compact_text}
 use Rattle.whips_model.specs.Tuples.{Codes}
-use Rattle.whips_script.specs.Json.{Text}
+use Rattle.whips_forms.specs.Json.{Text}
 
 -- A row of numbers as JSON.
 abbrev pub row_data : Codes → Data

@@ -5,7 +5,6 @@ ghost use Rattle.whips_run.specs.Answer.{answer, answer_of, script_text, refusal
 
 use crate::lines::final_text;
 use std::alloc::Global;
-use std::slice;
 use whips_rel::NoMemory;
 use whips_script::{Refusal, Script, ScriptErr, read_script};
 
@@ -38,14 +37,13 @@ pub(crate) fn answer_to(alloc: Global, bytes: &[u8]) -> Result<Answer, NoMemory>
 fn script_text(alloc: Global, script: &Script) -> Result<String, NoMemory>
     ensures { IfOk result (λ text. string_bytes text ≡ script_text script.now) }
 {
-    let rows = script.final_rows(alloc)?;
-    let count = script.transactions() as u64;
+    let values = script.final_values(alloc)?;
     let text = final_text(
         alloc,
-        slice::from_ref(script.source()),
-        slice::from_ref(&count),
-        slice::from_ref(script.view()),
-        slice::from_ref(&rows),
+        script.sources(),
+        script.transactions(),
+        script.views(),
+        &values,
     )?;
     Ok(text)
 }

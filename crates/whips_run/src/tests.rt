@@ -7,8 +7,8 @@ use whips_io::{MemSink, MemSource, NoMemory};
 const ONE_ROW: &[u8] =
     br#"{"sources":[{"name":"A","relations":[{"name":"R","columns":[["a","number"],["b","number"]],"key":["a"],"rows":[[1,5]]}]}],"views":[{"name":"W","relations":["R"],"out":["R.a","R.b"]}]}"#;
 
-/// Two sources with a join, slots and a session, which is no script of the first form.
-const TWO_SOURCES: &[u8] =
+/// Two sources with a join, slots and a session, which isn't read yet.
+const WITH_SESSION: &[u8] =
     br#"{"sources":[{"name":"A","relations":[{"name":"R","columns":[["a","number"],["b","number"]],"key":["a"],"rows":[]}],"updates":[]},{"name":"B","relations":[{"name":"S","columns":[["c","number"],["b","number"]],"key":["c"],"rows":[]}],"updates":[]}],"views":[{"name":"V","relations":["R","S"],"equal":[["R.b","S.b"]],"out":["R.a","S.c","R.b"],"slots":4}],"sessions":["s"]}"#;
 
 /// The words as owned texts.
@@ -49,6 +49,17 @@ fn a_final_state_is_written(rt: HostRuntime) -> Result<(), Fail> {
 }
 
 #[test]
+fn a_joined_view_is_written(rt: HostRuntime) -> Result<(), Fail> {
+    let text =
+        br#"{"sources":[{"name":"A","relations":[{"name":"R","columns":[["a","number"],["b","number"]],"key":["a"],"rows":[]}],"updates":[["insert","R",[1,5]]]},{"name":"B","relations":[{"name":"S","columns":[["c","number"],["b","number"]],"key":["c"],"rows":[]}],"updates":[["insert","S",[7,5]]]}],"views":[{"name":"V","relations":["R","S"],"equal":[["R.b","S.b"]],"out":["R.a","S.c","R.b"],"slots":4}],"sessions":[]}"#;
+    let (status, output) = run_on(rt.alloc(), &["run"], text, 0, 0)?;
+    assert_eq!(rt; status, 0);
+    let wanted = b"final A=1 B=1\nview V rows 1\nrow [1,7,5]\n";
+    assert_eq!(rt; output.written(), wanted.as_slice());
+    Ok(())
+}
+
+#[test]
 fn the_outside_fails(rt: HostRuntime) -> Result<(), Fail> {
     let (status, output) = run_on(rt.alloc(), &["run"], ONE_ROW, 2, 0)?;
     assert_eq!(rt; status, 4);
@@ -80,7 +91,7 @@ fn bad_input_is_refused(rt: HostRuntime) -> Result<(), Fail> {
         (b"\"\xff\"".as_slice(), syntax),
         (b"{}".as_slice(), unbuilt),
         (br#"{"sources":[],"views":[]}"#.as_slice(), unbuilt),
-        (TWO_SOURCES, unbuilt),
+        (WITH_SESSION, unbuilt),
     ];
     for (text, wanted) in cases {
         let (status, output) = run_on(rt.alloc(), &["run"], text, 0, 0)?;

@@ -1,4 +1,1 @@
-pub mod Documents
-pub mod Each
-pub mod Edits
-pub mod Numbers
+pub mod Scripts

@@ -1,7 +1,3 @@
-pub mod Json
-pub mod Names
-pub mod Forms
-pub mod Rows
-pub mod Relations
 pub mod Script
 pub mod Refusals
+pub mod Made

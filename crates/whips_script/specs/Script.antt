@@ -1,20 +1,28 @@
 -- What a script is, and which bytes are one.
-use Rattle.std.specs.Prelude.{ℕ, Bool, false, List, [], ◌∷◌, length, map, codes, nat_le, Option, Some, None, Result, Err, option_and_then, is_some, if◌then◌else◌}
-use Rattle.std.specs.Option.{option_map, ok_or}
+use Rattle.std.specs.Prelude.{ℕ, ◌&&◌, Bool, not, true, false, List, [], ◌∷◌, length, map, codes, Option, Some, None, Result, Err, option_and_then, is_some, if◌then◌else◌}
+use Rattle.std.specs.Option.{ok_or}
+use Rattle.std.specs.List.{list_all}
 use Rattle.serde_json.specs.Data.{Data}
-use Rattle.whips_model.specs.Relation.{Table, value_of}
+use Rattle.serde_json.specs.Find.{get}
+use Rattle.whips_model.specs.Tuples.{Columns}
+use Rattle.whips_model.specs.Relation.{Table}
 use Rattle.whips_model.specs.Views.{ViewData}
-use Rattle.whips_choices.specs.Places.{column}
 use Rattle.whips_rel.specs.declared.update.Update.{Update}
 use Rattle.whips_states.specs.States.{Updates, state_at}
+use Rattle.whips_view.specs.ViewDefs.{view_of}
 use Rattle.whips_view.specs.Refusals.{refusal_of}
+use Rattle.whips_setup.specs.Setups.{SetupData, setup_of}
+use Rattle.whips_setup.specs.Refusals.{setup_refusal}
+use Rattle.whips_setup.specs.Workloads.{work_refusal, one_each}
 use Rattle.whips_script.specs.declared.Refusal.{Refusal}
 use Rattle.whips_script.specs.declared.Refusal.TheVariants.{Syntax, Unbuilt}
-use Rattle.whips_script.specs.declared.json.ObjectForm.TheVariants.{Document, View}
-use Rattle.whips_script.specs.Json.{Text, document, elements, elements_within, single, each, member_in, is_object_of, is_text}
-use Rattle.whips_script.specs.Names.{name_in, place_in, qualified}
-use Rattle.whips_script.specs.Forms.{is_member_of}
-use Rattle.whips_script.specs.Relations.{RelationForm, SourceForm, source_in}
+use Rattle.whips_forms.specs.declared.json.ObjectForm.TheVariants.{Document}
+use Rattle.whips_forms.specs.Json.{Text, document, elements, member_in, is_object_of}
+use Rattle.whips_forms.specs.Names.{are_distinct}
+use Rattle.whips_forms.specs.Forms.{is_member_of}
+use Rattle.whips_forms.specs.Rows.{work_in}
+use Rattle.whips_forms.specs.Relations.{SourcesForm, sources_in}
+use Rattle.whips_view_forms.specs.Views.{ViewForm, views_in}
 
 -- A script: the names of the sources, all relations with their initial rows, the transactions of each source, and the views with their names.
 pub record Script : Type 0 where
@@ -28,75 +36,69 @@ pub record Script : Type 0 where
 abbrev pub final_state : Script → List Table
 final_state s = state_at s.initial s.work (map length s.work)
 
--- ---- a view
+abbrev pub are_none : Option (List Data) → Bool
+are_none None = false
+are_none (Some []) = true
+are_none (Some (d ∷ ds)) = false
 
--- A view with its name.
-pub record ViewForm : Type 0 where
-  pub name : Text
-  pub parts : ViewData
+-- Whether the member is missing, or an empty list.
+abbrev pub is_empty_list : Option Data → Bool
+is_empty_list None = true
+is_empty_list (Some d) = are_none (elements d)
 
--- A view of the one relation, with these of its columns in its rows.
-abbrev pub one_relation_view : List ℕ → ViewData
-one_relation_view out = record { relations = 0 ∷ []; homes = 0 ∷ []; equal = []; conds = []; out = map (column 0) out }
+-- The relations with their initial rows, and their columns.
+abbrev pub initial_of : SourcesForm → List Table
+initial_of ss = map (λ r. r.table) ss.relations
 
-abbrev pub is_text_there : Text → Option Data → Bool
-is_text_there text None = false
-is_text_there text (Some d) = is_text text d
+abbrev pub schemas_of : SourcesForm → List Columns
+schemas_of ss = map (λ r. r.table.columns) ss.relations
 
--- Whether the member `relations` is the list of this one name.
-abbrev pub names_relation : Text → Data → Bool
-names_relation name d = is_text_there name (member_in (codes "relations") (λ l. option_and_then single (elements l)) d)
+-- The setup of the sources with these views.
+abbrev pub setup_with : SourcesForm → List ViewForm → SetupData
+setup_with ss vs = setup_of (length ss.names) ss.homes (initial_of ss) (map (λ v. view_of (schemas_of ss) v.parts) vs) (map (λ v. v.slots) vs)
 
--- 1 to 16 columns of the relation, each as `relation.column`.
-abbrev pub out_in : RelationForm → Data → Option (List ℕ)
-out_in r d = option_and_then (each (place_in (map (qualified r.name) r.columns))) (elements_within 1 16 d)
+-- Whether names of sources, of relations and of views differ among themselves.
+abbrev pub are_all_distinct : List Text → List Text → List Text → Bool
+are_all_distinct sources relations views = are_distinct sources && are_distinct relations && are_distinct views
 
-abbrev pub view_with_name : RelationForm → Data → Text → Option ViewForm
-view_with_name r d name =
-    if names_relation r.name d then option_map (λ out. record { name = name; parts = one_relation_view out }) (member_in (codes "out") (out_in r) d) else None
+abbrev pub have_names : SourcesForm → List ViewForm → Bool
+have_names ss vs = are_all_distinct ss.names (map (λ r. r.name) ss.relations) (map (λ v. v.name) vs)
 
--- A view is an object with `name`, `relations` and `out`.
-abbrev pub view_in : RelationForm → Data → Option ViewForm
-view_in r d = if is_object_of (is_member_of View) d then option_and_then (view_with_name r d) (member_in (codes "name") name_in d) else None
+-- Whether no view is refused over relations of these schemas.
+abbrev pub are_views_over : List Columns → List ViewForm → Bool
+are_views_over schemas vs = list_all (λ v. not (is_some (refusal_of schemas v.parts))) vs
 
--- ---- the script
+-- Whether the setup with these views, and its workload, are refused by nothing.
+abbrev pub is_accepted : SourcesForm → List (List Update) → List ViewForm → Bool
+is_accepted ss work vs = not (is_some (setup_refusal (schemas_of ss) (setup_with ss vs))) && not (is_some (work_refusal (setup_with ss vs) (one_each work)))
 
--- The slots of a view where the script doesn't say.
-abbrev pub default_slots : ℕ
-default_slots = 1024
+abbrev pub script_with : SourcesForm → List (List Update) → List ViewForm → Script
+script_with ss work vs = record { sources = ss.names; initial = initial_of ss; work = one_each work; names = map (λ v. v.name) vs; views = map (λ v. v.parts) vs }
 
--- Each update is a transaction of its own.
-abbrev pub transactions_of : List Update → List Updates
-transactions_of us = map (λ u. u ∷ []) us
+-- The script of the sources with their updates, each a transaction of its own, and of the views, where names differ and nothing is refused.
+abbrev pub script_if : SourcesForm → List (List Update) → List ViewForm → Option Script
+script_if ss work vs = if have_names ss vs && are_views_over (schemas_of ss) vs && is_accepted ss work vs then Some (script_with ss work vs) else None
 
-abbrev pub script_with : SourceForm → ViewForm → Script
-script_with s v = record { sources = s.name ∷ []; initial = s.relation.table ∷ []; work = transactions_of s.updates ∷ []; names = v.name ∷ []; views = v.parts ∷ [] }
+abbrev pub script_views : Data → SourcesForm → List (List Update) → Option Script
+script_views d ss work = option_and_then (script_if ss work) (member_in (codes "views") (views_in ss.relations ss.homes) d)
 
--- Whether the view's value on the initial relation has no more rows than slots.
-abbrev pub has_slots : SourceForm → ViewForm → Bool
-has_slots s v = nat_le (length (value_of v.parts (s.relation.table ∷ []))) default_slots
+abbrev pub script_work : Data → SourcesForm → List Data → Option Script
+script_work d ss ds = option_and_then (script_views d ss) (work_in (map (λ r. r.name) ss.relations) (initial_of ss) ds)
 
--- The source with the view, where the view is refused by nothing and has its slots.
-abbrev pub script_if : SourceForm → ViewForm → Option Script
-script_if s v = if is_some (refusal_of (s.relation.table.columns ∷ []) v.parts) then None else (if has_slots s v then Some (script_with s v) else None)
+abbrev pub script_after : Data → Data → SourcesForm → Option Script
+script_after d sources ss = option_and_then (script_work d ss) (elements sources)
 
-abbrev pub only_source_in : Data → Option SourceForm
-only_source_in d = option_and_then source_in (option_and_then single (elements d))
+abbrev pub script_sources : Data → Data → Option Script
+script_sources d sources = option_and_then (script_after d sources) (sources_in sources)
 
-abbrev pub only_view_in : RelationForm → Data → Option ViewForm
-only_view_in r d = option_and_then (view_in r) (option_and_then single (elements d))
-
-abbrev pub script_after : Data → SourceForm → Option Script
-script_after d s = option_and_then (script_if s) (member_in (codes "views") (only_view_in s.relation) d)
-
--- A script of the first form is an object with `sources`, a list of one, and `views`, a list of one.
+-- A script is an object with `sources`, `views`, and perhaps `sessions`, an empty list.
 abbrev pub script_in : Data → Option Script
-script_in d = if is_object_of (is_member_of Document) d then option_and_then (script_after d) (member_in (codes "sources") only_source_in d) else None
+script_in d = if is_object_of (is_member_of Document) d && is_empty_list (get (codes "sessions") d) then option_and_then (script_sources d) (get (codes "sources") d) else None
 
 abbrev pub script_from : Option Data → Result Script Refusal
 script_from None = Err Syntax
 script_from (Some d) = ok_or (script_in d) Unbuilt
 
--- What the bytes are: a script, or the refusal. Bytes that are no JSON text are refused as `Syntax`, and what isn't of the first form, or is wrong in another way, as `Unbuilt`.
+-- What the bytes are: a script, or the refusal. Bytes that are no JSON text are refused as `Syntax`, and what isn't of a form that is built, or is wrong in another way, as `Unbuilt`.
 abbrev pub script_of : List ℕ → Result Script Refusal
 script_of bytes = script_from (document bytes)

@@ -1,74 +1,83 @@
 //! A script.
-ghost use Rattle.std.specs.Prelude.{◌≡◌, ◌≢◌, ◌≤◌, IfOk, IfErr, Some, None, Ok, Err, [], ◌∷◌, map, length, IsSome};
-ghost use Rattle.std.specs.Option.{option_map, ok_or};
+ghost use Rattle.std.specs.Prelude.{◌≡◌, ◌≢◌, ◌≤◌, true, false, IfOk, IfErr, OnOk, Some, None, Ok, is_some, map, length};
+ghost use Rattle.std.specs.Option.{option_map};
 ghost use Rattle.serde_json.specs.View.{view};
 ghost use Rattle.whips_model.specs.Relation.{value_of};
-ghost use Rattle.whips_view.specs.Refusals.{refusal_of};
+ghost use Rattle.whips_states.specs.States.{all_applied};
+ghost use Rattle.whips_setup.specs.Setups.{setup_of};
+ghost use Rattle.whips_setup.specs.Refusals.{setup_refusal};
+ghost use Rattle.whips_setup.specs.Workloads.{work_refusal, one_each};
 ghost use Rattle.whips_script.specs.Refusals.{IsRefusalOf};
-ghost use Rattle.whips_script.specs.Script.{final_state, script_if, script_in, script_from, script_of};
+ghost use Rattle.whips_script.specs.Script.{final_state, is_empty_list, initial_of, setup_with, are_all_distinct, script_if, script_work, script_in, script_of};
 
-use crate::json::{ObjectForm, is_object_of, member, parse};
-use crate::source::{SourceForm, read_only_source};
-use crate::view::{ViewForm, read_only_view};
-use crate::{ReadErr, Refusal, Text};
+use crate::Refusal;
+use crate::made::{MadeViews, initial_relations, make_views, relation_names, schemas_of};
 use serde_json::Value;
 use std::alloc::Global;
 use std::marker::Model;
-use whips_rel::{NoMemory, Relation, Rows};
-use whips_view::{Db, ViewDef, ViewErr};
+use whips_forms::{
+    ObjectForm, ReadErr, Sources, Text, are_distinct, elements, is_object_of, list_of, member,
+    parse, read_sources, read_work,
+};
+use whips_rel::{NoMemory, Relation, Rows, Update};
+use whips_setup::{Setup, SetupErr, WorkErr, Workload};
+use whips_view::Db;
+use whips_view_forms::{ViewForm, read_views};
 
-/// The slots of a view where the script doesn't say.
-const DEFAULT_SLOTS: usize = 1024;
-
-/// A script of the first form: one source with one relation of number columns, and one view of it.
+/// A script: sources with relations of number columns, their updates, and views.
 #[derive(Drop)]
 pub struct Script {
-    source: SourceForm,
-    name: Text,
-    view: ViewDef,
+    sources: Vec<Text>,
+    setup: Setup,
+    work: Workload,
+    counts: Vec<u64>,
+    names: Vec<Text>,
+    last: Db,
 }
 
 impl Model for Script {
-    ghost use Rattle.std.specs.Prelude.{◌≡◌, [], ◌∷◌};
-    ghost use Rattle.whips_script.specs.Script.{Script as ScriptData, transactions_of};
+    ghost use Rattle.std.specs.Prelude.{map};
+    ghost use Rattle.whips_script.specs.Script.{Script as ScriptData};
+    ghost use Rattle.whips_script.specs.Made.{IsScript};
 
     ghost Value = { ScriptData };
 
-    ghost view = { λ s. record { sources = s.source.name ∷ []; initial = s.source.relation.table ∷ []; work = transactions_of s.source.updates ∷ []; names = s.name ∷ []; views = s.view.parts ∷ [] } };
+    ghost view = { λ s. record { sources = s.sources.items; initial = s.setup.initial; work = s.work; names = s.names.items; views = map (λ v. v.parts) s.setup.views } };
 
-    ghost invariant = { λ s. (s.view.bases ≡ s.source.relation.table.columns ∷ []) × (s.view.parts.relations ≡ 0 ∷ []) };
+    ghost invariant = { λ s. IsScript s.setup s.work s.counts.items s.last };
 }
 
 impl Script {
-    /// The name of its source.
-    pub fn source(&self) -> &Text
-        ensures { self.now.sources ≡ result.now ∷ [] }
+    /// The names of its sources.
+    pub fn sources(&self) -> &[Text]
+        ensures { result.now ≡ self.now.sources }
     {
-        self.source.name()
+        &self.sources
     }
 
-    /// The number of its source's transactions.
-    pub fn transactions(&self) -> usize
-        ensures { map length self.now.work ≡ result ∷ [] }
+    /// The number of each source's transactions.
+    pub fn transactions(&self) -> &[u64]
+        ensures { result.now ≡ map length self.now.work }
     {
-        self.source.update_count()
+        &self.counts
     }
 
-    /// The name of its view.
-    pub fn view(&self) -> &Text
-        ensures { self.now.names ≡ result.now ∷ [] }
+    /// The names of its views.
+    pub fn views(&self) -> &[Text]
+        ensures { result.now ≡ self.now.names }
     {
-        &self.name
+        &self.names
     }
 
-    /// The value of its view on the state after all transactions.
-    pub fn final_rows(&self, alloc: Global) -> Result<Rows, NoMemory>
-        ensures { IfOk result (λ r. map (λ v. value_of v (final_state self.now)) self.now.views ≡ r.rows ∷ []) }
+    /// The value of each view on the state after all transactions.
+    pub fn final_values(&self, alloc: Global) -> Result<Vec<Rows>, NoMemory>
+        ensures { IfOk result (λ values. map (λ t. t.rows) values.items ≡ map (λ v. value_of v (final_state self.now)) self.now.views) }
     {
-        let last = self.source.last().copy()?;
-        let db = Db::of(vec![in alloc; last]?);
-        let rows = self.view.value(&db)?;
-        Ok(rows)
+        let mut values = Vec::new(alloc);
+        for x in 0..self.setup.views() {
+            values.push(self.setup.view(x).value(&self.last)?)?;
+        }
+        Ok(values)
     }
 }
 
@@ -81,47 +90,126 @@ pub enum ScriptErr {
     NoMemory,
 }
 
-/// The schema of the relation alone, by number.
-fn schemas_of(alloc: Global, relation: &Relation) -> Result<Vec<whips_rel::Schema>, NoMemory>
-    ensures { IfOk result (λ v. v.items ≡ relation.now.columns ∷ []) }
+/// How many updates each source makes.
+fn counts_of(alloc: Global, work: &[Vec<Update>]) -> Result<Vec<u64>, ReadErr>
+    ensures ok { IfOk result (λ counts. counts.items ≡ map (λ us. length us.items) work.now) }
+    ensures memory { IfErr result (λ e. e ≡ ReadErr.NoMemory) }
 {
-    let schema = relation.schema().copy()?;
-    Ok(vec![in alloc; schema]?)
+    let mut counts = Vec::new(alloc);
+    for updates in work {
+        counts.push(updates.len() as u64)?;
+    }
+    Ok(counts)
 }
 
-/// The view over the relation alone.
-fn make_view(alloc: Global, relation: &Relation, view: ViewForm) -> Result<(Text, ViewDef), ReadErr>
-    requires { view.parts.relations ≡ 0 ∷ [] }
-    ensures ok { IfOk result (λ v. (refusal_of (relation.now.columns ∷ []) view.parts ≡ None) × (v.0 ≡ view.name) × (v.1.parts ≡ view.parts) × (v.1.bases ≡ relation.now.columns ∷ [])) }
-    ensures refused { IfErr result (λ e. e ≢ ReadErr.NoMemory → IsSome (refusal_of (relation.now.columns ∷ []) view.parts)) }
+/// The setup of these sources with these views, where nothing refuses it.
+fn make_setup(
+    alloc: Global,
+    sources: &Sources,
+    defs: Vec<whips_view::ViewDef>,
+    slots: Vec<u32>,
+) -> Result<Setup, ReadErr>
+    requires { length sources.now.names ≤ 8 }
+    ensures ok { IfOk result (λ s. (s ≡ setup_of (length sources.now.names) sources.now.homes (initial_of sources.now) defs.items slots.items) × (setup_refusal (map (λ r. r.table.columns) sources.now.relations) s ≡ None)) }
+    ensures refused { IfErr result (λ e. e ≢ ReadErr.NoMemory
+        → is_some (setup_refusal (map (λ r. r.table.columns) sources.now.relations) (setup_of (length sources.now.names) sources.now.homes (initial_of sources.now) defs.items slots.items)) ≡ true) }
 {
-    let schemas = schemas_of(alloc, relation)?;
-    let ViewForm { name, parts } = view;
-    match ViewDef::make(alloc, &schemas, parts) {
-        Ok(def) => Ok((name, def)),
-        Err(ViewErr::NoMemory) => Err(ReadErr::NoMemory),
+    let schemas = schemas_of(alloc, &sources.relations)?;
+    let initial = initial_relations(alloc, &sources.relations)?;
+    let homes = Vec::from_slice(alloc, &sources.homes)?;
+    let count = sources.names.len() as u32;
+    match Setup::make(schemas, homes, initial, defs, slots, count) {
+        Ok(setup) => Ok(setup),
+        Err(SetupErr::NoMemory) => Err(ReadErr::NoMemory),
         Err(_) => Err(ReadErr::Unbuilt),
     }
 }
 
-/// The script of the source with the view, where the view is refused by nothing and has its slots.
-fn make_script(alloc: Global, source: SourceForm, view: ViewForm) -> Result<Script, ReadErr>
-    requires { view.parts.relations ≡ 0 ∷ [] }
-    ensures ok { IfOk result (λ s. script_if source view ≡ Some s) }
-    ensures refused { IfErr result (λ e. e ≢ ReadErr.NoMemory → script_if source view ≡ None) }
+/// The workload of these updates, each a transaction of its own, where nothing refuses it.
+fn make_work(alloc: Global, setup: &Setup, work: Vec<Vec<Update>>) -> Result<Workload, ReadErr>
+    ensures ok { IfOk result (λ w. (w ≡ one_each (map (λ us. us.items) work.items)) × (work_refusal setup.now w ≡ None)) }
+    ensures refused { IfErr result (λ e. e ≢ ReadErr.NoMemory → is_some (work_refusal setup.now (one_each (map (λ us. us.items) work.items))) ≡ true) }
 {
-    let (name, def) = make_view(alloc, source.relation().relation(), view)?;
-    let initial = source.relation().relation().copy()?;
-    let db = Db::of(vec![in alloc; initial]?);
-    let rows = def.value(&db)?;
-    if rows.len() <= DEFAULT_SLOTS {
-        return Ok(Script {
-            source,
-            name,
-            view: def,
-        });
+    match Workload::make(alloc, setup, work) {
+        Ok(work) => Ok(work),
+        Err(WorkErr::NoMemory) => Err(ReadErr::NoMemory),
+        Err(_) => Err(ReadErr::Unbuilt),
+    }
+}
+
+/// Whether names of sources, of relations and of views differ among themselves.
+fn check_names(sources: &[Text], relations: &[Text], views: &[Text]) -> Result<(), ReadErr>
+    ensures ok { OnOk result (are_all_distinct sources.now relations.now views.now ≡ true) }
+    ensures refused { IfErr result (λ e. e ≢ ReadErr.NoMemory → are_all_distinct sources.now relations.now views.now ≡ false) }
+{
+    if are_distinct(sources) && are_distinct(relations) && are_distinct(views) {
+        return Ok(());
     }
     Err(ReadErr::Unbuilt)
+}
+
+/// The script of these sources, updates and views, where names differ and nothing is refused.
+fn make_script(
+    alloc: Global,
+    sources: Sources,
+    names: Vec<Text>,
+    work: Vec<Vec<Update>>,
+    last: Vec<Relation>,
+    views: Vec<ViewForm>,
+) -> Result<Script, ReadErr>
+    requires names { names.items ≡ map (λ r. r.name) sources.relations }
+    requires few { length sources.names ≤ 8 }
+    requires last { last.items ≡ all_applied (initial_of sources) (map (λ us. us.items) work.items) }
+    ensures ok { IfOk result (λ s. script_if sources (map (λ us. us.items) work.items) views.items ≡ Some s) }
+    ensures refused { IfErr result (λ e. e ≢ ReadErr.NoMemory → script_if sources (map (λ us. us.items) work.items) views.items ≡ None) }
+{
+    let counts = counts_of(alloc, &work)?;
+    let schemas = schemas_of(alloc, &sources.relations)?;
+    let made = make_views(alloc, &schemas, views)?;
+    check_names(&sources.names, &names, &made.names)?;
+    let setup = make_setup(alloc, &sources, made.defs, made.slots)?;
+    let work = make_work(alloc, &setup, work)?;
+    Ok(Script {
+        sources: sources.names,
+        setup,
+        work,
+        counts,
+        names: made.names,
+        last: Db::of(last),
+    })
+}
+
+/// The script of these sources, with the updates that the elements have, and of the views of the document.
+fn read_rest(
+    alloc: Global,
+    document: &Value,
+    sources: Sources,
+    items: &[Value],
+) -> Result<Script, ReadErr>
+    requires relations { length sources.relations ≤ 32 }
+    requires few { length sources.names ≤ 8 }
+    ensures ok { IfOk result (λ s. script_work (view document.now) sources (map view items.now) ≡ Some s) }
+    ensures refused { IfErr result (λ e. e ≢ ReadErr.NoMemory → script_work (view document.now) sources (map view items.now) ≡ None) }
+{
+    let names = relation_names(alloc, &sources.relations)?;
+    let mut last = initial_relations(alloc, &sources.relations)?;
+    let work = read_work(alloc, &names, &mut last, items)?;
+    let list = member(document, "views")?;
+    let views = read_views(alloc, &sources.relations, &sources.homes, list)?;
+    make_script(alloc, sources, names, work, last, views)
+}
+
+/// Whether the member is missing, or an empty list.
+fn is_empty_list(member: Option<&Value>) -> bool
+    ensures { result ≡ is_empty_list (option_map (λ v. view v.now) member.entry) }
+{
+    match member {
+        None => true,
+        Some(list) => match list_of(list) {
+            Some([]) => true,
+            _ => false,
+        },
+    }
 }
 
 /// The script that a JSON value is.
@@ -129,12 +217,13 @@ fn read_value(alloc: Global, value: &Value) -> Result<Script, ReadErr>
     ensures ok { IfOk result (λ s. script_in (view value.now) ≡ Some s) }
     ensures refused { IfErr result (λ e. e ≢ ReadErr.NoMemory → script_in (view value.now) ≡ None) }
 {
-    if !is_object_of(value, ObjectForm::Document) {
+    if !(is_object_of(value, ObjectForm::Document) && is_empty_list(value.get("sessions"))) {
         return Err(ReadErr::Unbuilt);
     }
-    let source = read_only_source(alloc, member(value, "sources")?)?;
-    let view = read_only_view(alloc, source.relation(), member(value, "views")?)?;
-    make_script(alloc, source, view)
+    let list = member(value, "sources")?;
+    let sources = read_sources(alloc, list)?;
+    let items = elements(list)?;
+    read_rest(alloc, value, sources, items)
 }
 
 /// The script that the bytes are. A refusal is the one that they are by the definition of a script; want of memory may

@@ -36,13 +36,14 @@ fn a_script_is_read(rt: HostRuntime) -> Result<(), Fail> {
     )?;
     match read_script(rt.alloc(), text.as_str().as_bytes()) {
         Ok(script) => {
-            assert_eq!(rt; script.source().as_str(), "A");
-            assert_eq!(rt; script.view().as_str(), "W");
-            assert_eq!(rt; script.transactions(), 3);
-            let rows = script.final_rows(rt.alloc())?;
-            assert_eq!(rt; rows.len(), 3);
-            assert_eq!(rt; rows.row(0).codes(), [8, 1].as_slice());
-            assert_eq!(rt; rows.row(2).codes(), [7, 3].as_slice());
+            assert_eq!(rt; script.sources().len(), 1);
+            assert_eq!(rt; script.views().len(), 1);
+            assert_eq!(rt; script.transactions(), [3u64].as_slice());
+            let values = script.final_values(rt.alloc())?;
+            match values.as_slice() {
+                [rows] => assert_eq!(rt; rows.len(), 3),
+                _ => assert!(rt; false),
+            }
         }
         Err(_) => assert!(rt; false),
     }
@@ -97,7 +98,7 @@ fn wrong_views_are_refused(rt: HostRuntime) -> Result<(), Fail> {
         r#"["R.b"]"#,
         r#"["R.a","R.c"]"#,
         r#"["a"]"#,
-        r#"["R.a"],"slots":4"#,
+        r#"["R.a"],"slots":0"#,
         "7",
     ] {
         let text = script_with(rt.alloc(), "[[1,5]]", "[]", out)?;

@@ -1,0 +1,2 @@
+pub mod ViewParts
+pub mod Homes
