@@ -1,0 +1,10 @@
+//! Action lists: what a manager has done to a view's rows, and the rows after it.
+#![tactic(auto)]
+
+mod action;
+mod edit;
+#[cfg(test)]
+mod tests;
+
+pub use action::{Action, ActionList, Actions};
+pub use edit::{apply, apply_to};
