@@ -1,0 +1,3 @@
+pub mod Managers
+pub mod Messages
+pub mod Invariants
