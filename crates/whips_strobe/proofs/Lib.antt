@@ -1,0 +1,7 @@
+pub mod Insertions
+pub mod Seeds
+pub mod Struck
+pub mod Replies
+pub mod Sound
+pub mod Wide
+pub mod Fitted

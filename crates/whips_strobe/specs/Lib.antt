@@ -1,0 +1,4 @@
+pub mod Strobes
+pub mod Outs
+pub mod Parts
+pub mod Fitting

@@ -1,0 +1,12 @@
+//! The Strobe manager of a joined view: it keeps the view right while answers race with updates, without a copy of any base
+//! relation.
+#![tactic(auto)]
+
+mod fits;
+mod manager;
+mod state;
+mod strike;
+#[cfg(test)]
+mod tests;
+
+pub use manager::{Manager, Out};
