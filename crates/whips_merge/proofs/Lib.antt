@@ -1,0 +1,4 @@
+pub mod Entries
+pub mod Painting
+pub mod Listing
+pub mod Forming

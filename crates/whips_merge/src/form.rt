@@ -1,0 +1,186 @@
+//! Row sets become transactions.
+ghost use Rattle.std.specs.Prelude.{◌≡◌, ◌∷◌, [], ◌++◌, ◌<◌, ◌≤◌, cond, not, max, List, length, map, filter, fold, IfOk, OnOk, OnErr};
+ghost use Rattle.whips_flow.specs.Lists.{changed_at};
+ghost use Rattle.whips_flow.specs.Painted.{Row};
+ghost use Rattle.whips_flow.specs.Cuts.{cut_after};
+ghost use Rattle.whips_flow.specs.Settling.{settled_merge};
+ghost use Rattle.whips_place_laws.specs.Places.{without_places};
+ghost use Rattle.whips_merge.specs.Taking.{sets_taken, rows_after_sets, merge_of};
+ghost use Rattle.whips_merge.specs.Merging.{MergeState, covers_any, lists_of, lists_left, transaction_of, with_transaction, with_merge};
+
+use crate::lists::{ActionLists, Numbers, Queue, Transaction};
+use crate::paint::{paint_all, take_ready, take_rows};
+use crate::row::{Row, have};
+use std::alloc::Global;
+use std::collections::VecDeque;
+use whips_actions::ActionList;
+use whips_paint::Table;
+use whips_rel::NoMemory;
+use whips_setup::Cut;
+
+/// A row set that waits, with its transaction.
+#[derive(Drop)]
+pub(crate) struct Waiting {
+    pub(crate) rows: Vec<Row>,
+    pub(crate) transaction: Transaction,
+}
+
+/// Puts the list to one of two lists.
+fn put(
+    list: ActionList,
+    is_taken: bool,
+    taken: &mut ActionLists,
+    left: &mut ActionLists,
+) -> Result<(), NoMemory>
+    ensures taken { OnOk result (taken.new ≡ taken.old ++ cond is_taken (list ∷ []) []) }
+    ensures left { OnOk result (left.new ≡ left.old ++ cond (not is_taken) (list ∷ []) []) }
+{
+    if is_taken {
+        taken.push(list)?;
+    } else {
+        left.push(list)?;
+    }
+    Ok(())
+}
+
+/// Takes out the lists of a view that were painted in the rows.
+fn take_lists(
+    rows: &[Row],
+    lists: &mut ActionLists,
+    taken: &mut ActionLists,
+) -> Result<(), NoMemory>
+    ensures taken { OnOk result (taken.new ≡ taken.old ++ filter (covers_any rows.now) lists.old) }
+    ensures left { OnOk result (lists.new ≡ filter (λ l. not (covers_any rows.now l)) lists.old) }
+{
+    for list in lists.take() {
+        let is_taken = have(rows, &list);
+        put(list, is_taken, taken, lists)?;
+    }
+    Ok(())
+}
+
+/// Takes out the lists of all views that were painted in the rows, in order of view.
+fn take_all_lists(
+    alloc: Global,
+    rows: &[Row],
+    lists: &mut Vec<ActionLists>,
+) -> Result<ActionLists, NoMemory>
+    ensures taken { IfOk result (λ taken. taken ≡ lists_of rows.now lists.old.items) }
+    ensures left { OnOk result (lists.new.items ≡ lists_left rows.now lists.old.items) }
+{
+    let mut taken = ActionLists::new(alloc);
+    for own in lists.iter_mut() {
+        take_lists(rows, own, &mut taken)?;
+    }
+    Ok(taken)
+}
+
+/// Counts the source up to the place, where it isn't already.
+fn raise(cut: &mut [u64], source: u32, place: u64)
+    ensures { cut.new ≡ changed_at source (max place) cut.old }
+{
+    let at = source as usize;
+    if at < cut.len() {
+        cut[at] = place.max(cut[at]);
+    }
+}
+
+/// The cut after the rows.
+fn raise_all(cut: &mut [u64], rows: &[Row])
+    ensures { cut.new ≡ cut_after cut.old rows.now }
+{
+    for row in rows {
+        raise(cut, row.source(), row.place());
+    }
+}
+
+/// The numbers of the rows.
+fn numbers_of(alloc: Global, rows: &[Row]) -> Result<Numbers, NoMemory>
+    ensures { IfOk result (λ n. n ≡ map (λ r. r.number) rows.now) }
+{
+    let mut numbers = Vec::with_capacity(alloc, rows.len())?;
+    for row in rows {
+        numbers.push(row.number())?;
+    }
+    Ok(Numbers::of(numbers))
+}
+
+/// Makes a transaction of the row set.
+fn form(
+    alloc: Global,
+    rows: Vec<Row>,
+    lists: &mut Vec<ActionLists>,
+    cut: &mut Vec<u64>,
+) -> Result<Waiting, NoMemory>
+    ensures rows { IfOk result (λ w. w.rows.items ≡ rows.items) }
+    ensures transaction { IfOk result (λ w. w.transaction ≡ transaction_of rows.items lists.old.items cut.old.items) }
+    ensures lists { OnOk result (lists.new.items ≡ lists_left rows.items lists.old.items) }
+    ensures cut { OnOk result (cut.new.items ≡ cut_after cut.old.items rows.items) }
+{
+    let taken = take_all_lists(alloc, &rows, lists)?;
+    raise_all(cut, &rows);
+    let transaction = Transaction {
+        rows: numbers_of(alloc, &rows)?,
+        lists: taken,
+        cut: Cut::of(Vec::from_slice(alloc, cut)?),
+    };
+    Ok(Waiting { rows, transaction })
+}
+
+/// Makes a transaction of each row set that is ready, one after another, in at most `turns` turns.
+pub(crate) fn form_all(
+    alloc: Global,
+    turns: usize,
+    table: &mut Table,
+    rows: &mut Vec<Row>,
+    lists: &mut Vec<ActionLists>,
+    cut: &mut Vec<u64>,
+) -> Result<VecDeque<Waiting>, NoMemory>
+    requires same { table.old.table.rows ≡ without_places rows.old.items }
+    ensures left { OnOk result (rows.new.items ≡ rows_after_sets turns rows.old.items) }
+    ensures table { OnOk result (table.new ≡ record table.old { table = record table.old.table { rows = without_places rows.new.items } }) }
+    ensures sets { IfOk result (λ formed. map (λ w. w.rows.items) formed.items ≡ sets_taken turns rows.old.items) }
+    ensures formed { IfOk result (λ formed. (s : MergeState) → s.lists ≡ lists.old.items → s.cut ≡ cut.old.items
+        → fold with_transaction s (sets_taken turns rows.old.items) ≡ record s { lists = lists.new.items; cut = cut.new.items; transactions = s.transactions ++ map (λ w. w.transaction) formed.items }) }
+    ensures lists { OnOk result (length lists.new.items ≡ length lists.old.items) }
+{
+    let mut formed = VecDeque::new(alloc);
+    for turn in 0..turns {
+        let numbers = match take_ready(table, rows)? {
+            Some(numbers) => numbers,
+            None => return Ok(formed),
+        };
+        let set = take_rows(rows, &numbers)?;
+        let waiting = form(alloc, set, lists, cut)?;
+        formed.push_back(waiting)?;
+    }
+    Ok(formed)
+}
+
+/// Paints each list whose rows have come, and makes a transaction of each row set that is ready then.
+pub(crate) fn settle(
+    alloc: Global,
+    table: &mut Table,
+    rows: &mut Vec<Row>,
+    waiting: &mut Vec<Queue>,
+    lists: &mut Vec<ActionLists>,
+    cut: &mut Vec<u64>,
+    sets: &mut VecDeque<Waiting>,
+) -> Result<(), NoMemory>
+    requires there { length waiting.old.items ≡ table.old.views }
+    requires few { table.old.views ≤ 8 }
+    requires same { table.old.table.rows ≡ without_places rows.old.items }
+    ensures settled { OnOk result ((s : MergeState) → s.merge.row_sets ≡ map (λ w. w.rows.items) sets.old.items → s.lists ≡ lists.old.items → s.cut ≡ cut.old.items → s.transactions ≡ map (λ w. w.transaction) sets.old.items
+        → with_merge (settled_merge (merge_of table.old.table.last_announced rows.old.items waiting.old.items (map (λ w. w.rows.items) sets.old.items))) s
+        ≡ record s { merge = merge_of table.old.table.last_announced rows.new.items waiting.new.items (map (λ w. w.rows.items) sets.new.items); lists = lists.new.items; cut = cut.new.items; transactions = map (λ w. w.transaction) sets.new.items }) }
+    ensures table { OnOk result (table.new ≡ record table.old { table = record table.old.table { rows = without_places rows.new.items } }) }
+    ensures waiting { OnOk result (length waiting.new.items ≡ length waiting.old.items) }
+    ensures lists { OnOk result (length lists.new.items ≡ length lists.old.items) }
+    ensures err { OnErr result (sets.new.items ≡ sets.old.items) }
+{
+    let turns = rows.len();
+    paint_all(table, rows, waiting);
+    let mut formed = form_all(alloc, turns, table, rows, lists, cut)?;
+    sets.append(&mut formed)?;
+    Ok(())
+}

@@ -1,0 +1,221 @@
+//! The merge.
+ghost use Rattle.std.specs.Prelude.{◌≡◌, ◌≢◌, ◌<◌, true, [], ◌∷◌, ◌++◌, replicate, nat_lt, length, IfOk, OnOk, OnErr, IsErr};
+ghost use Rattle.std.specs.List.{All, AllPairs};
+ghost use Rattle.whips_flow.specs.Lists.{front};
+ghost use Rattle.whips_flow.specs.State.{new_table as empty_table};
+ghost use Rattle.whips_place_laws.specs.Places.{without_places};
+ghost use Rattle.whips_merge.specs.Merging.{new_merge, announced_row, after_rel, after_act, after_next, IsStoppedAfter};
+
+use crate::form::{Waiting, settle};
+use crate::lists::{ActionLists, Queue, Transaction};
+use crate::row::Row;
+use std::alloc::Global;
+use std::collections::VecDeque;
+use std::marker::Model;
+use whips_actions::ActionList;
+use whips_paint::Table;
+use whips_rel::NoMemory;
+use whips_setup::Setup;
+
+/// The merge of several views. It holds each list until the rows that it covers have come, and makes a transaction of each
+/// set of rows that have to change the views together.
+#[derive(Drop)]
+pub struct Merge {
+    table: Table,
+    rows: Vec<Row>,
+    waiting: Vec<Queue>,
+    lists: Vec<ActionLists>,
+    cut: Vec<u64>,
+    sets: VecDeque<Waiting>,
+    is_stopped: bool,
+}
+
+impl Model for Merge {
+    ghost use Rattle.std.specs.Prelude.{◌≡◌, false, map};
+    ghost use Rattle.whips_merge.specs.Merging.{MergeState};
+    ghost use Rattle.whips_merge.specs.Taking.{merge_of, IsWhole};
+
+    ghost Value = { MergeState };
+
+    ghost view = { λ m. record { merge = merge_of m.table.table.last_announced m.rows.items m.waiting.items (map (λ w. w.rows.items) m.sets.items); lists = m.lists.items; cut = m.cut.items; transactions = map (λ w. w.transaction) m.sets.items; is_stopped = m.is_stopped } };
+
+    ghost invariant = { λ m. m.is_stopped ≡ false → IsWhole m.table m.rows.items m.waiting.items m.lists.items };
+}
+
+/// A queue for each view, with no number yet.
+fn queues(alloc: Global, views: u32) -> Result<Vec<Queue>, NoMemory>
+    ensures { IfOk result (λ q. q.items ≡ replicate views []) }
+{
+    let mut queues = Vec::with_capacity(alloc, views as usize)?;
+    for view in 0..views {
+        queues.push(Queue::new(alloc))?;
+    }
+    Ok(queues)
+}
+
+/// A list for each view, with no action list yet.
+fn no_lists(alloc: Global, views: u32) -> Result<Vec<ActionLists>, NoMemory>
+    ensures { IfOk result (λ l. l.items ≡ replicate views []) }
+{
+    let mut lists = Vec::with_capacity(alloc, views as usize)?;
+    for view in 0..views {
+        lists.push(ActionLists::new(alloc))?;
+    }
+    Ok(lists)
+}
+
+/// The table of the setup's views with no row.
+fn new_table(alloc: Global, views: u32) -> Result<Table, NoMemory>
+    ensures { IfOk result (λ t. t ≡ record { views = views; table = empty_table }) }
+{
+    match Table::new(alloc, views) {
+        Ok(table) => Ok(table),
+        Err(_) => Err(NoMemory),
+    }
+}
+
+/// Takes a transaction into the table and the rows.
+fn add_row(
+    table: &mut Table,
+    rows: &mut Vec<Row>,
+    number: u64,
+    source: u32,
+    place: u64,
+    views: usize,
+    concerned: &[u32],
+) -> Result<(), NoMemory>
+    requires views { table.old.views ≡ views }
+    requires same { table.old.table.rows ≡ without_places rows.old.items }
+    requires above { table.old.table.last_announced < number }
+    requires some { 0 < length concerned.now }
+    requires there { All (λ x. x < views) concerned.now }
+    requires once { AllPairs (λ x y. x ≢ y) concerned.now }
+    ensures rows { OnOk result (rows.new.items ≡ rows.old.items ++ announced_row views number source place concerned.now ∷ []) }
+    ensures same { OnOk result (table.new.table.rows ≡ without_places rows.new.items) }
+    ensures last { OnOk result (table.new.table.last_announced ≡ number) }
+    ensures kept { OnOk result (table.new.views ≡ table.old.views) }
+{
+    let alloc = *rows.allocator();
+    let listed = Vec::from_slice(alloc, concerned)?;
+    let row = Row::new(alloc, number, source, place, views, concerned)?;
+    if table.add_row(number, source, &listed).is_err() {
+        return Err(NoMemory);
+    }
+    rows.push(row)?;
+    Ok(())
+}
+
+impl Merge {
+    /// A merge of the setup's views, to which nothing has come.
+    pub fn new(alloc: Global, setup: &Setup) -> Result<Merge, NoMemory>
+        ensures { IfOk result (λ m. m ≡ new_merge setup.now) }
+    {
+        let views = setup.views();
+        let sources = setup.sources();
+        Ok(Merge {
+            table: new_table(alloc, views)?,
+            rows: Vec::new(alloc),
+            waiting: queues(alloc, views)?,
+            lists: no_lists(alloc, views)?,
+            cut: vec![in alloc; 0u64; sources as usize]?,
+            sets: VecDeque::new(alloc),
+            is_stopped: false,
+        })
+    }
+
+    /// Takes a transaction that is announced, with its number, its source and its place there, and the views that it
+    /// concerns. After want of memory the merge is stopped, and what waits still waits.
+    pub fn rel(
+        &mut self,
+        number: u64,
+        source: u32,
+        place: u64,
+        concerned: &[u32],
+    ) -> Result<(), NoMemory>
+        requires above { self.old.merge.table.last_announced < number }
+        requires some { 0 < length concerned.now }
+        requires there { All (λ x. x < length self.old.lists) concerned.now }
+        requires once { AllPairs (λ x y. x ≢ y) concerned.now }
+        ensures taken { OnOk result (self.new ≡ after_rel (announced_row (length self.old.lists) number source place concerned.now) self.old) }
+        ensures announced { OnOk result (self.new.merge.table.last_announced ≡ number) }
+        ensures views { OnOk result (length self.new.lists ≡ length self.old.lists) }
+        ensures err { OnErr result (IsStoppedAfter self.old self.new) }
+        ensures stopped { self.old.is_stopped ≡ true → IsErr result }
+    {
+        if self.is_stopped {
+            return Err(NoMemory);
+        }
+        self.is_stopped = true;
+        let alloc = *self.rows.allocator();
+        let views = self.lists.len();
+        add_row(
+            &mut self.table,
+            &mut self.rows,
+            number,
+            source,
+            place,
+            views,
+            concerned,
+        )?;
+        settle(
+            alloc,
+            &mut self.table,
+            &mut self.rows,
+            &mut self.waiting,
+            &mut self.lists,
+            &mut self.cut,
+            &mut self.sets,
+        )?;
+        self.is_stopped = false;
+        Ok(())
+    }
+
+    /// Takes the next list of a view. It is painted as soon as the last transaction that it covers is announced. After
+    /// want of memory the merge is stopped, and what waits still waits.
+    pub fn act(&mut self, list: ActionList) -> Result<(), NoMemory>
+        requires { list.view < length self.old.lists }
+        ensures taken { OnOk result (self.new ≡ after_act list self.old) }
+        ensures announced { OnOk result (self.new.merge.table.last_announced ≡ self.old.merge.table.last_announced) }
+        ensures views { OnOk result (length self.new.lists ≡ length self.old.lists) }
+        ensures err { OnErr result (IsStoppedAfter self.old self.new) }
+        ensures stopped { self.old.is_stopped ≡ true → IsErr result }
+    {
+        if self.is_stopped {
+            return Err(NoMemory);
+        }
+        self.is_stopped = true;
+        let alloc = *self.rows.allocator();
+        let view = list.view as usize;
+        self.waiting[view].push(list.upto)?;
+        self.lists[view].push(list)?;
+        settle(
+            alloc,
+            &mut self.table,
+            &mut self.rows,
+            &mut self.waiting,
+            &mut self.lists,
+            &mut self.cut,
+            &mut self.sets,
+        )?;
+        self.is_stopped = false;
+        Ok(())
+    }
+
+    /// Whether a transaction waits.
+    pub fn waits(&self) -> bool
+        ensures { result ≡ nat_lt 0 (length self.now.transactions) }
+    {
+        !self.sets.is_empty()
+    }
+
+    /// Hands out the oldest transaction that waits; `None` exactly where none waits.
+    pub fn next(&mut self) -> Option<Transaction>
+        ensures next { result ≡ front self.old.transactions }
+        ensures left { self.new ≡ after_next self.old }
+    {
+        match self.sets.pop_front() {
+            Some(waiting) => Some(waiting.transaction),
+            None => None,
+        }
+    }
+}
