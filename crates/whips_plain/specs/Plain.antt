@@ -1,0 +1,24 @@
+-- What a plain store keeps.
+use Rattle.std.specs.Prelude.{◌≡◌, ℕ, ◌<◌, ◌≤◌, ◌^◌, length}
+use Rattle.std.specs.List.{sum_by, AllByRecursion}
+use Rattle.whips_store.specs.Stores.{ViewState, StoreState, ChangeLists, changes_left}
+use Rattle.whips_store.specs.Sound.{HaveWidth, IsSoundStore}
+
+-- each row in the view's slots has a code for each column
+abbrev pub HasWidths : ViewState → Type 0
+HasWidths v = AllByRecursion (HaveWidth (length v.columns.kinds)) v.records
+
+abbrev pub HasFewSlots : ViewState → Type 0
+HasFewSlots v = length v.records < 2 ^ 32
+
+-- how many changes there are in all
+abbrev pub count : ChangeLists → ℕ
+count cs = sum_by (λ c. length c.1) cs
+
+-- A plain store: it is sound, has up to 8 views with fewer than 2^32 slots each and a phase up to 2^62, and counts the changes that are left.
+pub record IsPlain (changes : ℕ) (s : StoreState) : Type 0 where
+  pub sound : IsSoundStore s
+  pub left : changes ≡ changes_left s
+  pub few : length s.views ≤ 8
+  pub slots : AllByRecursion HasFewSlots s.views
+  pub phase : s.phase ≤ 2 ^ 62

@@ -1,0 +1,11 @@
+//! A store of versioned rows in plain memory: a vector of views, each with a slot for all versions
+//! of a row.
+#![tactic(auto)]
+
+mod first;
+mod plain;
+#[cfg(test)]
+mod tests;
+mod views;
+
+pub use plain::Plain;

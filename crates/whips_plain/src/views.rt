@@ -1,0 +1,115 @@
+//! What the calls of a store do to each of its views.
+ghost use Rattle.std.specs.Prelude.{◌≡◌, ◌≢◌, ◌<◌, ◌≤◌, ◌+◌, ◌/◌, ◌^◌, length, map, None, Some, IfErr, IfSome, OnOk};
+ghost use Rattle.std.specs.List.{AllByRecursion};
+ghost use Rattle.whips_store.specs.Stores.{ViewState};
+ghost use Rattle.whips_store.specs.Calls.{AreNet, slots_needed, first_full, views_with, views_changed};
+ghost use Rattle.whips_store.specs.Sound.{IsSoundView};
+ghost use Rattle.whips_store_laws.specs.Laws.{AreTables};
+ghost use Rattle.whips_plain.specs.Plain.{HasWidths, count};
+
+use whips_plain_store::PlainView;
+use whips_rel::{Change, Rows};
+use whips_store::{Changes, StoreErr};
+
+/// That view `x` has slots for the version after `c`, which leads to the rows `after`.
+fn check_view(x: u32, view: &PlainView, after: &Rows, c: u64, n: u32) -> Result<(), StoreErr>
+    requires least { 2 ≤ n }
+    requires version { c < 2 ^ 62 }
+    requires columns { after.now.columns ≡ view.now.columns }
+    requires widths { HasWidths view.now }
+    ensures ok { OnOk result (slots_needed n c view.now after.now.rows ≤ length view.now.records) }
+    ensures full { IfErr result (λ e. e ≢ StoreErr.NoMemory → (length view.now.records < slots_needed n c view.now after.now.rows) × (e ≡ StoreErr.Full x (slots_needed n c view.now after.now.rows) (length view.now.records))) }
+{
+    let need = view.slots_needed(c, n, after)?;
+    let have = view.slots();
+    if have < need {
+        return Err(StoreErr::Full {
+            view: x,
+            need: need as u64,
+            have: have as u64,
+        });
+    }
+    Ok(())
+}
+
+/// That each of these views, the first of which is number `x`, has slots for the version after `c`.
+pub(crate) fn check_views(
+    x: u32,
+    views: &[PlainView],
+    changes: &[(Rows, Vec<Change>)],
+    c: u64,
+    n: u32,
+) -> Result<(), StoreErr>
+    requires least { 2 ≤ n }
+    requires version { c < 2 ^ 62 }
+    requires numbers { x + length views.now < 2 ^ 32 }
+    requires widths { AllByRecursion HasWidths views.now }
+    requires net { AreNet views.now (map (λ view. (view.0, view.1.items)) changes.now) }
+    ensures ok { OnOk result (first_full n c x views.now (map (λ view. (view.0, view.1.items)) changes.now) ≡ None) }
+    ensures full { IfErr result (λ e. e ≢ StoreErr.NoMemory → first_full n c x views.now (map (λ view. (view.0, view.1.items)) changes.now) ≡ Some e) }
+{
+    match views {
+        [] => Ok(()),
+        [view, views @ ..] => match changes {
+            [] => Ok(()),
+            [change, changes @ ..] => {
+                check_view(x, view, &change.0, c, n)?;
+                check_views(x + 1, views, changes, c, n)
+            }
+        },
+    }
+}
+
+/// How many changes there are, where that is a `u64`. The rows afterwards are tables.
+pub(crate) fn count_changes(changes: &[(Rows, Vec<Change>)]) -> Option<u64>
+    ensures tables { AreTables (map (λ view. (view.0, view.1.items)) changes.now) }
+    ensures count { IfSome result (λ m. m ≡ count (map (λ view. (view.0, view.1.items)) changes.now)) }
+{
+    match changes {
+        [] => Some(0),
+        [change, changes @ ..] => {
+            let _sound = change.0.schema();
+            match count_changes(changes) {
+                Some(more) => more.checked_add(change.1.len() as u64),
+                None => None,
+            }
+        }
+    }
+}
+
+/// Hands each view its rows afterwards and its changes.
+pub(crate) fn put_changes(views: &mut Vec<PlainView>, changes: Changes)
+    requires { AreNet views.old.items changes }
+    ensures { views.new.items ≡ views_with views.old.items changes }
+{
+    let mut x = 0;
+    for change in changes.views {
+        views[x].begin(change.0, change.1);
+        x += 1;
+    }
+}
+
+/// Makes the first change that is left.
+pub(crate) fn change_first(views: &mut Vec<PlainView>, phase: u64, n: u32)
+    requires least { 2 ≤ n }
+    requires most { n ≤ 4 }
+    requires phase { phase < 2 ^ 63 }
+    requires sound { AllByRecursion (IsSoundView n phase) views.old.items }
+    ensures { views.new.items ≡ views_changed n (phase / 2) views.old.items }
+{
+    for x in 0..views.len() {
+        if views[x].left() > 0 {
+            views[x].change_next(phase, n);
+            return;
+        }
+    }
+}
+
+/// Makes each view's new rows the current ones.
+pub(crate) fn publish_views(views: &mut Vec<PlainView>)
+    ensures { views.new.items ≡ map (λ (v : ViewState). record v { current = v.next }) views.old.items }
+{
+    for view in views.iter_mut() {
+        view.publish();
+    }
+}

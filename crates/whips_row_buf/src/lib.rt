@@ -1,0 +1,9 @@
+//! A buffer of rows that takes all its memory when it is made, so that a reader needs none later.
+#![tactic(auto)]
+
+mod buffer;
+mod line;
+#[cfg(test)]
+mod tests;
+
+pub use buffer::RowBuf;
