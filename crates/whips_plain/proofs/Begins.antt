@@ -5,11 +5,12 @@ use Rattle.std.specs.List.{sum_by}
 use Rattle.std.proofs.lemmas.List.Sums.{sum_by-cons}
 use Rattle.std.proofs.lemmas.Bool.Decides.{leb_tells}
 use Rattle.whips_setup.specs.declared.error.SetupErr.TheVariants.{Slots, Limit}
-use Rattle.std.proofs.lemmas.List.{length-map, length-append, take_all}
+use Rattle.std.proofs.lemmas.List.{length-map, length-append, take_all, drop_all}
 use Rattle.whips_rel.specs.declared.update.Change.{Change}
 use Rattle.whips_model.specs.Tuples.{Codes}
 use Rattle.whips_vnl.specs.declared.record.Vstep.{Vstep}
 use Rattle.whips_store.specs.declared.error.StoreErr.TheVariants.{Full}
+use Rattle.std.proofs.Math.Seq.{drop-cons}
 use Rattle.std.proofs.lemmas.Bool.{lt-ltb, le-ltb}
 use Rattle.whips_model.specs.Relation.{Table, value_of}
 use Rattle.whips_view.specs.ViewDefs.{View, row_columns}
@@ -18,7 +19,7 @@ use Rattle.whips_setup.specs.Limits.{is_within_limits}
 use Rattle.whips_setup.specs.declared.error.SetupErr.{SetupErr}
 use Rattle.whips_setup.specs.Refusals.{slots_refusal, IsSetup}
 use Rattle.whips_store.specs.Stores.{ViewState, ChangeLists, no_view}
-use Rattle.whips_store.specs.Calls.{AreNet, slots_needed, first_full, views_with}
+use Rattle.whips_store.specs.Calls.{AreNet, AreNetChanges, slots_needed, first_full, views_with}
 use Rattle.whips_store.specs.First.{first_steps, first_records, first_view}
 use Rattle.whips_plain.specs.First.{view_at_first, views_at_first}
 use Rattle.whips_plain.specs.Plain.{HasFewSlots, count}
@@ -177,24 +178,42 @@ first_slots_few db view n fits few =
 
 -- ---- what the first of the views decides
 
-rest_is : {Y : Type 0} (y : Y) (ys : List Y) → take (length (y ∷ ys) - 1) ys ≡ ys
-rest_is y ys = let one : length (y ∷ ys) - 1 ≡ length ys = omega arith in ap (λ k. take k ys) one ∙ take_all (length ys) ys (omega arith)
+split_drop : {Y : Type 0} (ys : List Y) (x : ℕ) (y : Y) → x < length ys → y ≡ get_or ys x y → drop x ys ≡ y ∷ drop (suc x) ys
+split_drop ys x y lt is = drop-cons ys x y lt ∙ ap (λ z. z ∷ drop (suc x) ys) (sym is)
 
-module _ {X : Type 0} (f : X → Table × List Change) (n c x : ℕ) (v : ViewState) (item : X) where
-  pub full_at : (vs : List ViewState) (items : List X) → 1 ≤ length vs → v ≡ get_or vs 0 v → 1 ≤ length items → item ≡ get_or items 0 item → length v.records < slots_needed n c v (f item).0.rows
-      → first_full n c x vs (map f items) ≡ Some (Full x (slots_needed n c v (f item).0.rows) (length v.records))
-  full_at [] items some is more at lt = absurd (omega arith)
-  full_at (w ∷ vs) [] some is more at lt = absurd (omega arith)
-  full_at (w ∷ vs) (i ∷ items) some is more at lt =
-      ap₂ (λ v' item'. first_full n c x (v' ∷ vs) (f item' ∷ map f items)) (sym is) (sym at)
-      ∙ ap (λ b. cond b (Some (Full x (slots_needed n c v (f item).0.rows) (length v.records))) (first_full n c (suc x) vs (map f items))) (lt-ltb (length v.records) (slots_needed n c v (f item).0.rows) lt)
+many_net : {X : Type 0} (f : X → Table × List Change) (vs : List ViewState) (items : List X) → AreNet vs (map f items) → length items ≡ length vs
+many_net f [] [] net = refl
+many_net f [] (i ∷ items) net = absurd net
+many_net f (v ∷ vs) [] net = absurd net
+many_net f (v ∷ vs) (i ∷ items) net = ap suc (many_net f vs items net.1)
 
-  pub fits_at : (vs : List ViewState) (items : List X) → 1 ≤ length vs → v ≡ get_or vs 0 v → 1 ≤ length items → item ≡ get_or items 0 item → slots_needed n c v (f item).0.rows ≤ length v.records
-      → first_full n c (x + 1) (take (length vs - 1) (drop 1 vs)) (map f (take (length items - 1) (drop 1 items))) ≡ first_full n c x vs (map f items)
-  fits_at [] items some is more at le = absurd (omega arith)
-  fits_at (w ∷ vs) [] some is more at le = absurd (omega arith)
-  fits_at (w ∷ vs) (i ∷ items) some is more at le =
-      let next : x + 1 ≡ suc x = omega arith in
-      ap₂ (λ l m. first_full n c (x + 1) l (map f m)) (rest_is w vs) (rest_is i items) ∙ ap (λ y. first_full n c y vs (map f items)) next
-      ∙ sym (ap (λ b. cond b (Some (Full x (slots_needed n c v (f item).0.rows) (length v.records))) (first_full n c (suc x) vs (map f items))) (le-ltb (length v.records) (slots_needed n c v (f item).0.rows) le))
-      ∙ ap₂ (λ v' item'. first_full n c x (v' ∷ vs) (f item' ∷ map f items)) is at
+pub net_at : {X : Type 0} (f : X → Table × List Change) (vs : List ViewState) (items : List X) (x : ℕ) (v : ViewState) (item : X) → AreNet vs (map f items) → x < length items → v ≡ get_or vs x v → item ≡ get_or items x item
+    → ((f item).0.columns ≡ v.columns) × AreNetChanges v (f item).0.rows (f item).1
+net_at f [] [] x v item net lt is at = absurd (omega arith)
+net_at f [] (i ∷ items) x v item net lt is at = absurd net
+net_at f (w ∷ vs) [] x v item net lt is at = absurd (omega arith)
+net_at f (w ∷ vs) (i ∷ items) zero v item net lt is at = subst (λ (u : ViewState). ((f item).0.columns ≡ u.columns) × AreNetChanges u (f item).0.rows (f item).1) (sym is) (subst (λ j. ((f j).0.columns ≡ w.columns) × AreNetChanges w (f j).0.rows (f j).1) (sym at) net.0)
+net_at f (w ∷ vs) (i ∷ items) (suc x) v item net lt is at = net_at f vs items x v item net.1 (omega arith) is at
+
+pub net_there : {X : Type 0} (f : X → Table × List Change) (vs : List ViewState) (items : List X) (x : ℕ) → AreNet vs (map f items) → x < length items → x < length vs
+net_there f vs items x net lt = let many = many_net f vs items net in omega arith
+
+module _ {X : Type 0} (f : X → Table × List Change) (n c x : ℕ) (v : ViewState) (item : X) (vs : List ViewState) (items : List X) (some : x < length vs) (is : v ≡ get_or vs x v) (more : x < length items) (at : item ≡ get_or items x item) where
+  from_here : first_full n c x (drop x vs) (map f (drop x items)) ≡ first_full n c x (v ∷ drop (suc x) vs) (f item ∷ map f (drop (suc x) items))
+  from_here = ap₂ (λ l m. first_full n c x l (map f m)) (split_drop vs x v some is) (split_drop items x item more at)
+
+  pub full_at : length v.records < slots_needed n c v (f item).0.rows → first_full n c x (drop x vs) (map f (drop x items)) ≡ Some (Full x (slots_needed n c v (f item).0.rows) (length v.records))
+  full_at lt = from_here ∙ ap (λ b. cond b (Some (Full x (slots_needed n c v (f item).0.rows) (length v.records))) (first_full n c (suc x) (drop (suc x) vs) (map f (drop (suc x) items)))) (lt-ltb (length v.records) (slots_needed n c v (f item).0.rows) lt)
+
+  pub fits_at : slots_needed n c v (f item).0.rows ≤ length v.records → first_full n c x (drop x vs) (map f (drop x items)) ≡ first_full n c (x + 1) (drop (x + 1) vs) (map f (drop (x + 1) items))
+  fits_at le =
+      let next : suc x ≡ x + 1 = omega arith in
+      from_here ∙ ap (λ b. cond b (Some (Full x (slots_needed n c v (f item).0.rows) (length v.records))) (first_full n c (suc x) (drop (suc x) vs) (map f (drop (suc x) items)))) (le-ltb (length v.records) (slots_needed n c v (f item).0.rows) le)
+      ∙ ap (λ y. first_full n c y (drop y vs) (map f (drop y items))) next
+
+pub none_short : {X : Type 0} (f : X → Table × List Change) (n c x : ℕ) (vs : List ViewState) (items : List X) → length items ≤ x → first_full n c x (drop x vs) (map f (drop x items)) ≡ None
+none_short f n c x vs items le = ap (λ l. first_full n c x (drop x vs) (map f l)) (drop_all x items le) ∙ no_item (drop x vs)
+  where
+    no_item : (vs : List ViewState) → first_full n c x vs [] ≡ None
+    no_item [] = refl
+    no_item (v ∷ vs) = refl

@@ -92,13 +92,7 @@ impl Store for Plain {
     }
 
     fn begin(&mut self, changes: Changes) -> Result<(), StoreErr> {
-        check_views(
-            0,
-            &self.views,
-            &changes.views,
-            self.phase / 2,
-            self.versions,
-        )?;
+        check_views(&mut self.views, &changes.views, self.phase, self.versions)?;
         match count_changes(&changes.views) {
             Some(left) => {
                 put_changes(&mut self.views, changes);

@@ -1,63 +1,70 @@
 //! What the calls of a store do to each of its views.
-ghost use Rattle.std.specs.Prelude.{◌≡◌, ◌≢◌, ◌<◌, ◌≤◌, ◌+◌, ◌/◌, ◌^◌, length, map, None, Some, IfErr, IfSome, OnOk};
+ghost use Rattle.std.specs.Prelude.{◌≡◌, ◌≢◌, ◌<◌, ◌≤◌, ◌+◌, ◌/◌, ◌%◌, ◌^◌, length, map, None, Some, IfErr, IfSome, OnOk};
 ghost use Rattle.std.specs.List.{AllByRecursion};
 ghost use Rattle.whips_store.specs.Stores.{ViewState};
-ghost use Rattle.whips_store.specs.Calls.{AreNet, slots_needed, first_full, views_with, views_changed};
+ghost use Rattle.whips_store.specs.Calls.{AreNet, AreNetChanges, slots_needed, first_full, views_with, views_changed};
 ghost use Rattle.whips_store.specs.Sound.{IsSoundView};
 ghost use Rattle.whips_store_laws.specs.Laws.{AreTables};
-ghost use Rattle.whips_plain.specs.Plain.{HasWidths, count};
+ghost use Rattle.whips_plain.specs.Plain.{count};
 
 use whips_plain_store::PlainView;
 use whips_rel::{Change, Rows};
 use whips_store::{Changes, StoreErr};
 
-/// That view `x` has slots for the version after `c`, which leads to the rows `after`.
-fn check_view(x: u32, view: &PlainView, after: &Rows, c: u64, n: u32) -> Result<(), StoreErr>
-    requires least { 2 ≤ n }
-    requires version { c < 2 ^ 62 }
-    requires columns { after.now.columns ≡ view.now.columns }
-    requires widths { HasWidths view.now }
-    ensures ok { OnOk result (slots_needed n c view.now after.now.rows ≤ length view.now.records) }
-    ensures full { IfErr result (λ e. e ≢ StoreErr.NoMemory → (length view.now.records < slots_needed n c view.now after.now.rows) × (e ≡ StoreErr.Full x (slots_needed n c view.now after.now.rows) (length view.now.records))) }
-{
-    let need = view.slots_needed(c, n, after)?;
-    let have = view.slots();
-    if have < need {
-        return Err(StoreErr::Full {
-            view: x,
-            need: need as u64,
-            have: have as u64,
-        });
-    }
-    Ok(())
-}
-
-/// That each of these views, the first of which is number `x`, has slots for the version after `c`.
-pub(crate) fn check_views(
+/// That view `x` has slots for the transaction of these changes, which leads to the rows `after`. Nothing that is seen of
+/// the view changes.
+fn check_view(
     x: u32,
-    views: &[PlainView],
-    changes: &[(Rows, Vec<Change>)],
-    c: u64,
+    view: &mut PlainView,
+    after: &Rows,
+    changes: &[Change],
+    phase: u64,
     n: u32,
 ) -> Result<(), StoreErr>
     requires least { 2 ≤ n }
-    requires version { c < 2 ^ 62 }
-    requires numbers { x + length views.now < 2 ^ 32 }
-    requires widths { AllByRecursion HasWidths views.now }
-    requires net { AreNet views.now (map (λ view. (view.0, view.1.items)) changes.now) }
-    ensures ok { OnOk result (first_full n c x views.now (map (λ view. (view.0, view.1.items)) changes.now) ≡ None) }
-    ensures full { IfErr result (λ e. e ≢ StoreErr.NoMemory → first_full n c x views.now (map (λ view. (view.0, view.1.items)) changes.now) ≡ Some e) }
+    requires most { n ≤ 4 }
+    requires phase { phase < 2 ^ 62 }
+    requires quiet { phase % 2 ≡ 0 }
+    requires sound { IsSoundView n phase view.old }
+    requires columns { after.now.columns ≡ view.old.columns }
+    requires net { AreNetChanges view.old after.now.rows changes.now }
+    ensures same { view.new ≡ view.old }
+    ensures ok { OnOk result (slots_needed n (phase / 2) view.old after.now.rows ≤ length view.old.records) }
+    ensures full { IfErr result (λ e. e ≢ StoreErr.NoMemory → (length view.old.records < slots_needed n (phase / 2) view.old after.now.rows) × (e ≡ StoreErr.Full x (slots_needed n (phase / 2) view.old after.now.rows) (length view.old.records))) }
 {
-    match views {
-        [] => Ok(()),
-        [view, views @ ..] => match changes {
-            [] => Ok(()),
-            [change, changes @ ..] => {
-                check_view(x, view, &change.0, c, n)?;
-                check_views(x + 1, views, changes, c, n)
-            }
-        },
+    match view.prepare(phase, n, after, changes)? {
+        None => Ok(()),
+        Some(need) => Err(StoreErr::Full {
+            view: x,
+            need: need as u64,
+            have: view.slots() as u64,
+        }),
     }
+}
+
+/// That each of these views has slots for its transaction. Nothing that is seen of the views changes.
+pub(crate) fn check_views(
+    views: &mut Vec<PlainView>,
+    changes: &[(Rows, Vec<Change>)],
+    phase: u64,
+    n: u32,
+) -> Result<(), StoreErr>
+    requires least { 2 ≤ n }
+    requires most { n ≤ 4 }
+    requires phase { phase < 2 ^ 62 }
+    requires quiet { phase % 2 ≡ 0 }
+    requires numbers { length views.old.items < 2 ^ 32 }
+    requires sound { AllByRecursion (IsSoundView n phase) views.old.items }
+    requires net { AreNet views.old.items (map (λ view. (view.0, view.1.items)) changes.now) }
+    ensures same { views.new.items ≡ views.old.items }
+    ensures ok { OnOk result (first_full n (phase / 2) 0 views.old.items (map (λ view. (view.0, view.1.items)) changes.now) ≡ None) }
+    ensures full { IfErr result (λ e. e ≢ StoreErr.NoMemory → first_full n (phase / 2) 0 views.old.items (map (λ view. (view.0, view.1.items)) changes.now) ≡ Some e) }
+{
+    for x in 0..changes.len() {
+        let change = &changes[x];
+        check_view(x as u32, &mut views[x], &change.0, &change.1, phase, n)?;
+    }
+    Ok(())
 }
 
 /// How many changes there are, where that is a `u64`. The rows afterwards are tables.

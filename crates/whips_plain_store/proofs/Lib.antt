@@ -1,3 +1,3 @@
-pub mod Found
 pub mod Steps
 pub mod Puts
+pub mod Room

@@ -18,8 +18,9 @@ use Rattle.whips_store.specs.Sound.{HaveWidth}
 use Rattle.whips_store_laws.proofs.Unions.{other_same, has_own_key}
 use Rattle.whips_store_laws.proofs.Slots.{row_of_seen}
 use Rattle.whips_store_laws.proofs.Views.{wide_seen}
-use Rattle.whips_plain_store.specs.Plain.{all_steps, put_all, put_values}
-use Rattle.whips_plain_store.proofs.Found.{steps_at}
+use Rattle.whips_slot_index.specs.Slots.{all_steps}
+use Rattle.whips_plain_store.specs.Plain.{put_all, put_values}
+use Rattle.whips_slot_index.proofs.Found.{steps_at}
 use Rattle.std.specs.Prelude.{not}
 
 put_again : (cols : List ℕ) (t : Codes) (rows : List Codes) → IsKeyed cols rows → put_row cols t (without_key cols (at_columns cols t) rows) ≡ put_row cols t rows

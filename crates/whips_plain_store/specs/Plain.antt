@@ -1,19 +1,10 @@
--- A plain store's records.
-use Rattle.std.specs.Prelude.{ℕ, ◌≤◌, List, [], ◌∷◌, map, length, fold, Option}
-use Rattle.std.specs.List.{AllByRecursion}
+-- What a plain view's calls do, and rows that are put.
+use Rattle.std.specs.Prelude.{◌≡◌, ℕ, ◌<◌, ◌≤◌, List, [], ◌∷◌, length, fold, Option, Some, None}
 use Rattle.whips_model.specs.Tuples.{Codes, put_row}
-use Rattle.whips_vnl.specs.Records.{steps_or_none}
-use Rattle.whips_vnl.specs.declared.record.Vstep.{Vstep}
+use Rattle.whips_rel.specs.declared.update.Change.{Change}
+use Rattle.whips_vnl.specs.Records.{seen_row, seen_after}
 use Rattle.whips_store.specs.Stores.{ViewState}
 use Rattle.whips_store.specs.Calls.{changed_view}
-
--- the steps of each slot's record
-abbrev pub all_steps : List (Option (List Vstep)) → List (List Vstep)
-all_steps records = map steps_or_none records
-
--- no record has more than n steps
-abbrev pub AreKept : ℕ → List (Option (List Vstep)) → Type 0
-AreKept n records = AllByRecursion (λ r. length (steps_or_none r) ≤ n) records
 
 -- the view once its first change that is left is made
 abbrev pub changed_first : ℕ → ℕ → ViewState → ViewState
@@ -21,6 +12,15 @@ changed_first n c v = elim v.left [
   | [] ↦ v
   | change ∷ others ↦ changed_view n c change others v
 ]
+
+-- a row that the change brings has this many codes
+abbrev pub IsWide : ℕ → Change → Type 0
+IsWide width change = (t : Codes) → seen_after change ≡ seen_row t → length t ≡ width
+
+-- whether slots are enough: where they are none is told, and else how many are needed
+abbrev pub IsShortage : ℕ → ℕ → Option ℕ → Type 0
+IsShortage need have None = need ≤ have
+IsShortage need have (Some m) = (have < need) × (m ≡ need)
 
 -- the rows with these put, one after another
 abbrev pub put_all : List ℕ → List Codes → List Codes → List Codes

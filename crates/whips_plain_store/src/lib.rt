@@ -1,8 +1,8 @@
 //! A store of versioned rows in plain memory: so far the store of one view.
 #![tactic(auto)]
 
+mod change;
 mod need;
-mod slots;
 #[cfg(test)]
 mod tests;
 mod view;

@@ -6,10 +6,11 @@ ghost use Rattle.whips_flow.specs.Lists.{places_from};
 ghost use Rattle.whips_vnl.specs.Records.{steps_or_none};
 ghost use Rattle.whips_store.specs.Versions.{rows_at};
 ghost use Rattle.whips_store.specs.Sound.{HaveWidth};
-ghost use Rattle.whips_plain_store.specs.Plain.{all_steps, put_all, put_values};
+ghost use Rattle.whips_slot_index.specs.Slots.{all_steps};
+ghost use Rattle.whips_plain_store.specs.Plain.{put_all, put_values};
 
-use crate::slots::row_shown;
 use whips_rel::{NoMemory, Relation, Tuple};
+use whips_slot_index::row_shown;
 use whips_vnl::Vrec;
 
 /// Puts the row into the place of the one with its key.
@@ -38,11 +39,11 @@ pub(crate) fn put_rows(rows: &mut Relation, news: &[Tuple]) -> Result<(), NoMemo
 }
 
 /// Puts the row that the slot shows at version `v`, where it shows one.
-fn put_slot(rows: &mut Relation, record: &Option<Vrec>, v: u64, n: u32) -> Result<(), NoMemory>
-    requires { HaveWidth (length rows.old.columns.kinds) (steps_or_none record.now) }
-    ensures { OnOk result (rows.new ≡ record rows.old { rows = put_all rows.old.columns.key rows.old.rows (rows_at n v (steps_or_none record.now ∷ [])) }) }
+fn put_slot(rows: &mut Relation, slot: &Option<Vrec>, v: u64, n: u32) -> Result<(), NoMemory>
+    requires { HaveWidth (length rows.old.columns.kinds) (steps_or_none slot.now) }
+    ensures { OnOk result (rows.new ≡ record rows.old { rows = put_all rows.old.columns.key rows.old.rows (rows_at n v (steps_or_none slot.now ∷ [])) }) }
 {
-    match row_shown(record, v, n) {
+    match row_shown(slot, v, n) {
         Some(row) => put(rows, row),
         None => Ok(()),
     }

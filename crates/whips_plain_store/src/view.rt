@@ -1,44 +1,50 @@
 //! One view in a plain store.
-ghost use Rattle.std.specs.Prelude.{◌≡◌, ℕ, ◌<◌, ◌≤◌, ◌+◌, ◌-◌, ◌/◌, ◌^◌, [], ◌∷◌, ◌++◌, length, map, slice_index_or, set, true, IfOk};
+ghost use Rattle.std.specs.Prelude.{◌≡◌, ℕ, ◌<◌, ◌≤◌, ◌+◌, ◌-◌, ◌/◌, ◌%◌, ◌^◌, [], ◌∷◌, ◌++◌, length, map, slice_index_or, set, true, IfOk};
 ghost use Rattle.std.specs.List.{AllByRecursion};
 ghost use Rattle.whips_vnl.specs.Records.{steps_after, visible, shown_of, IsBelow, is_fitting};
 ghost use Rattle.whips_changes.specs.Changes.{need};
 ghost use Rattle.whips_store.specs.Versions.{versions_in_use, rows_at};
 ghost use Rattle.whips_store.specs.Stores.{with_seen};
-ghost use Rattle.whips_store.specs.Calls.{slots_needed};
+ghost use Rattle.whips_store.specs.Calls.{AreNetChanges, slots_needed};
 ghost use Rattle.whips_store.specs.First.{first_steps, first_records, first_view};
 ghost use Rattle.whips_store.specs.Sound.{HaveWidth, IsSoundView};
-ghost use Rattle.whips_plain_store.specs.Plain.{all_steps, changed_first};
+ghost use Rattle.whips_slot_index.specs.Slots.{all_steps};
+ghost use Rattle.whips_plain_store.specs.Plain.{changed_first, IsShortage};
 
+use crate::change::{index_after, index_for, keys_of, slot_of};
 use crate::need::{put_rows, put_versions};
-use crate::slots::{find_slot, row_shown, slot_shown, versions_used};
 use std::alloc::Global;
 use std::marker::Model;
 use whips_rel::{Change, NoMemory, Relation, Rows, Schema, Tuple};
 use whips_row_buf::RowBuf;
+use whips_slot_index::{SlotIndex, row_shown, slot_shown, versions_used};
 use whips_vnl::{Op, Shown, Vrec, Vstep, changed};
 
-/// A view's slots, its rows at the committed version and at the one that is written, and the
-/// changes that are left, the last one first.
+/// A view's slots, its rows at the committed version and at the one that is written, the changes that are left with
+/// their keys, the last one first, and an index of the slots.
 #[derive(Drop)]
 pub struct PlainView {
     records: Vec<Option<Vrec>>,
     current: Rows,
     next: Option<Rows>,
     left: Vec<Change>,
+    keys: Vec<Tuple>,
+    index: Option<SlotIndex>,
 }
 
 impl Model for PlainView {
     ghost use Rattle.std.specs.Prelude.{◌≡◌, reverse};
     ghost use Rattle.std.specs.Option.{unwrap_or};
     ghost use Rattle.whips_store.specs.Stores.{ViewState};
-    ghost use Rattle.whips_plain_store.specs.Plain.{all_steps};
+    ghost use Rattle.std.specs.Option.{ForSome};
+    ghost use Rattle.whips_slot_index.specs.Slots.{all_steps};
+    ghost use Rattle.whips_slot_index.specs.Indexes.{IsIndex};
 
     ghost Value = { ViewState };
 
     ghost view = { λ f. record { columns = f.current.columns; records = all_steps f.records.items; current = f.current.rows; next = (unwrap_or f.next f.current).rows; left = reverse f.left.items } };
 
-    ghost invariant = { λ f. (unwrap_or f.next f.current).columns ≡ f.current.columns };
+    ghost invariant = { λ f. ((unwrap_or f.next f.current).columns ≡ f.current.columns) × ForSome f.index (IsIndex f.current.columns.key (all_steps f.records.items)) };
 }
 
 /// Makes the change in the slot.
@@ -162,6 +168,8 @@ impl PlainView {
             current: rows,
             next: None,
             left: Vec::new(alloc),
+            keys: Vec::new(alloc),
+            index: None,
         })
     }
 
@@ -197,6 +205,54 @@ impl PlainView {
         ensures { IfOk result (λ m. m ≡ slots_needed n c self.now after.now.rows) }
     {
         count_keys(&self.records, self.current.schema(), c, n, after)
+    }
+
+    /// Prepares the transaction of these net changes that lead to the rows `after`, while no maintenance is active, and
+    /// tells whether the view has too few slots for it: then how many it needs. It takes the memory that the changes
+    /// need later, and nothing that is seen of the view changes. The first time it looks at each slot, and later at those
+    /// that were changed since; where slots are short it counts the keys of the rows.
+    pub fn prepare(
+        &mut self,
+        phase: u64,
+        n: u32,
+        after: &Rows,
+        changes: &[Change],
+    ) -> Result<Option<usize>, NoMemory>
+        requires least { 2 ≤ n }
+        requires most { n ≤ 4 }
+        requires phase { phase < 2 ^ 63 }
+        requires quiet { phase % 2 ≡ 0 }
+        requires sound { IsSoundView n phase self.old }
+        requires columns { after.now.columns ≡ self.old.columns }
+        requires net { AreNetChanges self.old after.now.rows changes.now }
+        ensures same { self.new ≡ self.old }
+        ensures short { IfOk result (λ short. IsShortage (slots_needed n (phase / 2) self.old after.now.rows) (length self.old.records) short) }
+    {
+        let alloc = *self.records.allocator();
+        let _table = after.schema();
+        let mut keys = keys_of(alloc, self.current.schema(), changes)?;
+        let old = self.index.take();
+        let mut index = index_for(
+            alloc,
+            old,
+            self.current.schema(),
+            &self.records,
+            n,
+            phase / 2,
+        )?;
+        let is_roomy = index.has_slots_for(self.current.schema(), &self.records, changes, &keys);
+        index.reserve(changes.len())?;
+        self.index = Some(index);
+        keys.reverse();
+        self.keys = keys;
+        if is_roomy {
+            return Ok(None);
+        }
+        let need = self.slots_needed(phase / 2, n, after)?;
+        if need <= self.records.len() {
+            return Ok(None);
+        }
+        Ok(Some(need))
     }
 
     /// Takes the changes and the rows that they lead to.
@@ -246,8 +302,19 @@ impl PlainView {
     {
         let c = phase / 2;
         if let Some(change) = self.left.pop() {
-            if let Some(slot) = find_slot(self.current.schema(), &self.records, &change, n, c) {
+            let key = self.keys.pop();
+            let place = slot_of(
+                &self.index,
+                self.current.schema(),
+                &self.records,
+                &change,
+                &key,
+                n,
+                c,
+            );
+            if let Some(slot) = place {
                 change_slot(&mut self.records, slot, change, n, c);
+                self.index = index_after(self.index.take(), slot, n, c);
             }
         }
     }

@@ -34,7 +34,7 @@ in_use n c v low high = within_places (suc (min c (n - 2))) (c - (n - 2)) v low 
 pub used : (n c v : ℕ) → Has v (versions_in_use n c) → (c - (n - 2) ≤ v) × (v ≤ c)
 used n c v h = let p = place_within (suc (min c (n - 2))) (c - (n - 2)) v h in (p.0, omega (arith, p.1))
 
-row_shown : (cols : List ℕ) (k : Codes) (s : Seen) → is_row_of cols k s ≡ true → (t : Codes) × (s ≡ seen_row t) × (at_columns cols t ≡ k)
+pub row_shown : (cols : List ℕ) (k : Codes) (s : Seen) → is_row_of cols k s ≡ true → (t : Codes) × (s ≡ seen_row t) × (at_columns cols t ≡ k)
 row_shown cols k (seen_row t) e = (t, refl, key_is cols k t e)
 row_shown cols k seen_nothing e = absurd (cc)
 row_shown cols k seen_past e = absurd (cc)
@@ -52,7 +52,7 @@ pub record IsNetChange (cols : List ℕ) (before after : List Codes) (change : C
   pub added : (t : Codes) → change ≡ Add t → row_at cols (change_key cols change) before ≡ None
   pub kept : is_fitting change seen_nothing ≡ false → is_some (row_at cols (change_key cols change) before) ≡ true
 
-net_fact : (cols : List ℕ) (before after : List Codes) (k : Codes) (a b : Option Codes) (change : Change) → row_at cols k before ≡ a → row_at cols k after ≡ b → change_of k a b ≡ Some change → IsNetChange cols before after change
+pub net_fact : (cols : List ℕ) (before after : List Codes) (k : Codes) (a b : Option Codes) (change : Change) → row_at cols k before ≡ a → row_at cols k after ≡ b → change_of k a b ≡ Some change → IsNetChange cols before after change
 net_fact cols before after k None None change ea eb e = absurd (cc)
 net_fact cols before after k None (Some t) change ea eb e =
     let is : Add t ≡ change = cc in

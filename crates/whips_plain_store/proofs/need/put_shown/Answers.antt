@@ -1,6 +1,7 @@
 use Rattle.std.proofs.Common.{take}
 use Rattle.whips_store.specs.Versions.{rows_at}
-use Rattle.whips_plain_store.specs.Plain.{all_steps, put_all}
+use Rattle.whips_slot_index.specs.Slots.{all_steps}
+use Rattle.whips_plain_store.specs.Plain.{put_all}
 use Rattle.whips_plain_store.proofs.Puts.{slot_wide, slot_put}
 use Rattle.whips_plain_store.proofs.need.put_shown.Goals as goal
 

@@ -4,4 +4,4 @@ use Rattle.whips_plain_store.proofs.Puts.{row_wide}
 use Rattle.whips_plain_store.proofs.need.put_slot.Goals as goal
 
 pub put-requires : goal.put-requires
-put-requires c = row_wide (length c.args.rows.now.columns.kinds) c.args.n c.args.v (steps_or_none c.args.record.now) c.in-Some.row.now c.requires c.in-Some.ensures
+put-requires c = row_wide (length c.args.rows.now.columns.kinds) c.args.n c.args.v (steps_or_none c.args.slot.now) c.in-Some.row.now c.requires c.in-Some.ensures

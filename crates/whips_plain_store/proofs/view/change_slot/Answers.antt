@@ -1,6 +1,6 @@
 use Rattle.std.proofs.Common.{◌≡◌, ◌+◌, get_or, sym, subst}
 use Rattle.whips_vnl.specs.Records.{steps_after}
-use Rattle.whips_plain_store.proofs.Found.{slot_changed}
+use Rattle.whips_slot_index.proofs.Found.{slot_changed}
 use Rattle.whips_plain_store.proofs.view.change_slot.Goals as goal
 
 pub returns : goal.returns

@@ -1,6 +1,6 @@
 use Rattle.std.proofs.Common.{◌≡◌, map, take}
 use Rattle.whips_store.specs.First.{first_steps}
-use Rattle.whips_plain_store.specs.Plain.{all_steps}
+use Rattle.whips_slot_index.specs.Slots.{all_steps}
 use Rattle.whips_plain_store.proofs.view.row_records.Given as goal
 
 abbrev pub invariant-loop-row : goal.invariant-loop-row

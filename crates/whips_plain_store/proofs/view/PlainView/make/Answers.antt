@@ -2,7 +2,7 @@ use Rattle.std.proofs.Common.{◌≡◌, ◌-◌, sym, subst, ap, ◌∙◌}
 use Rattle.whips_store.specs.Stores.{ViewState}
 use Rattle.whips_store.specs.Sound.{IsSoundView}
 use Rattle.whips_store_laws.proofs.First.{first_is_sound}
-use Rattle.whips_plain_store.specs.Plain.{all_steps}
+use Rattle.whips_slot_index.specs.Slots.{all_steps}
 use Rattle.whips_plain_store.proofs.Steps.{view_made}
 use Rattle.whips_plain_store.proofs.view.PlainView.make.Goals as goal
 

@@ -1,4 +1,0 @@
-use Rattle.whips_plain_store.proofs.slots.+shows_in.Given as goal
-
-abbrev pub decreases-shows_in : goal.decreases-shows_in
-decreases-shows_in l = l.count

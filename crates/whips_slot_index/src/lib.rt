@@ -1,0 +1,10 @@
+//! The slots of one view: what each shows, in which one a change is made, and an index that finds it without looking at all.
+#![tactic(auto)]
+
+mod index;
+mod slots;
+#[cfg(test)]
+mod tests;
+
+pub use index::SlotIndex;
+pub use slots::{find_slot, row_shown, slot_shown, versions_used};
