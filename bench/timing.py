@@ -1,4 +1,4 @@
-"""Times a program on scripts of growing sizes."""
+"""Times a program on inputs of growing sizes."""
 import ctypes
 import os
 import statistics
@@ -8,37 +8,45 @@ import tempfile
 import time
 
 TOP = os.path.dirname(os.path.dirname(os.path.abspath(__file__)))
-PROGRAM = sys.argv[1] if len(sys.argv) > 1 else os.path.join(TOP, "crates/whips/out/whips")
 PR_SET_CHILD_SUBREAPER = 36
 
 
-def run(path):
-    """Seconds and peak kilobytes of one run.
+def program(name):
+    """The first word of this one, or else the built program of this name."""
+    return sys.argv[1] if len(sys.argv) > 1 else os.path.join(TOP, "crates", name, "out", name)
+
+
+def run(command, words, path):
+    """Seconds and peak kilobytes of one run with these words on this input.
 
     A shell starts the program and ends, so that the peak isn't that of this interpreter before it became the program;
     the program then becomes a child of this process, which is its subreaper.
     """
     begin = time.perf_counter()
-    subprocess.run(["sh", "-c", '"$0" run <"$1" >/dev/null &', PROGRAM, path], check=True)
+    subprocess.run(["sh", "-c", 'input=$1; shift; "$0" "$@" <"$input" >/dev/null &', command, path, *words], check=True)
     _, status, usage = os.wait4(-1, 0)
     seconds = time.perf_counter() - begin
     if status:
-        sys.exit(f"status {status} on {path}")
+        sys.exit(f"status {status} of {command} {' '.join(words)} on {path}")
     return seconds, usage.ru_maxrss
 
 
-def table(what, sizes, script):
-    """Prints, for the script of each size, the median seconds of nine runs, the peak memory, and the growth."""
+def table(what, sizes, text=lambda size: "", words=lambda size: ["run"], name="whips"):
+    """Prints, for the input and the words of each size, the median seconds of nine runs, the peak memory, and the growth.
+    Returns the seconds."""
     ctypes.CDLL(None).prctl(PR_SET_CHILD_SUBREAPER, 1, 0, 0, 0)
     print(f"{what:>8} {'seconds':>9} {'kilobytes':>10} {'time':>6} {'memory':>7}")
     before = None
+    medians = []
     for size in sizes:
         with tempfile.NamedTemporaryFile("w", suffix=".json") as file:
-            file.write(script(size))
+            file.write(text(size))
             file.flush()
-            runs = [run(file.name) for _ in range(9)]
+            runs = [run(program(name), words(size), file.name) for _ in range(9)]
         seconds = statistics.median(r[0] for r in runs)
         memory = max(r[1] for r in runs)
         growth = "" if before is None else f"{seconds / before[0]:6.2f} {memory / before[1]:7.2f}"
         print(f"{size:8} {seconds:9.4f} {memory:10} {growth}")
         before = (seconds, memory)
+        medians.append(seconds)
+    return medians

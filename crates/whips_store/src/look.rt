@@ -54,6 +54,7 @@ pub trait Look {
 }
 
 /// A look at a store that stands still meanwhile. Its log stays empty.
+#[derive(Drop)]
 pub struct PlainLook<'a, S: Store> {
     store: &'a S,
 }

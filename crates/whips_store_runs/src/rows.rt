@@ -1,0 +1,71 @@
+//! Rows of two numbers, the first of which is the key.
+ghost use Rattle.std.specs.Prelude.{◌≡◌, IfOk};
+ghost use Rattle.std.specs.List.{list_all};
+ghost use Rattle.whips_store_runs.specs.Numbers.{are_within};
+
+use std::alloc::Global;
+use whips_rel::{InsertErr, Kind, Kinds, NoMemory, Places, Relation, Rows, Schema, Tuple};
+
+/// The greatest number of a row.
+const GREATEST: u64 = 999_999_999_999;
+
+/// Two number columns, of which the first is the key.
+pub fn pair_schema(alloc: Global) -> Result<Schema, NoMemory> {
+    let kinds = Kinds::of(vec![in alloc; Kind::Number, Kind::Number]?);
+    Ok(Schema::make(kinds, Places::of(vec![in alloc; 0u32]?)))
+}
+
+/// Puts the row of this key and code in.
+fn put(alloc: Global, rows: &mut Rows, key: u64, code: u64) -> Result<(), NoMemory>
+    ensures { rows.new.columns ≡ rows.old.columns }
+{
+    if rows.schema().kinds().len() != 2 {
+        return Err(NoMemory);
+    }
+    match rows.insert(Tuple::from_slice(alloc, &[key, code])?) {
+        Ok(()) => Ok(()),
+        Err(InsertErr::Present(_)) | Err(InsertErr::NoMemory(_)) => Err(NoMemory),
+    }
+}
+
+/// Makes the key's row one of this code, or takes it out.
+fn set(alloc: Global, rows: &mut Rows, key: u64, code: Option<u64>) -> Result<(), NoMemory>
+    ensures { rows.new.columns ≡ rows.old.columns }
+{
+    let _old = rows.delete(&Tuple::from_slice(alloc, &[key])?);
+    match code {
+        Some(code) => put(alloc, rows, key, code),
+        None => Ok(()),
+    }
+}
+
+/// The rows once each of these keys has the code beside it, or no row.
+pub fn edited(alloc: Global, before: &Rows, edits: &[(u64, Option<u64>)]) -> Result<Rows, NoMemory>
+    ensures { IfOk result (λ rows. rows.columns ≡ before.now.columns) }
+{
+    let mut rows = before.copy()?;
+    for (key, code) in edits {
+        set(alloc, &mut rows, *key, *code)?;
+    }
+    Ok(rows)
+}
+
+/// The rows of these keys and codes.
+pub fn pairs(alloc: Global, edits: &[(u64, Option<u64>)]) -> Result<Rows, NoMemory> {
+    let none = Relation::new(alloc, pair_schema(alloc)?);
+    edited(alloc, &none, edits)
+}
+
+/// Whether no number of the rows is above the greatest.
+pub fn are_rows_within(rows: &Rows) -> bool
+    ensures { result ≡ list_all are_within rows.now.rows }
+{
+    rows.rows().iter().all(|row| is_row_within(row))
+}
+
+/// Whether no number of the row is above the greatest.
+fn is_row_within(row: &Tuple) -> bool
+    ensures { result ≡ are_within row.now }
+{
+    row.codes().iter().all(|code| *code <= GREATEST)
+}
