@@ -11,8 +11,8 @@ use Rattle.whips_steps.specs.Steps.{asked_sources, steps, step_parts}
 use Rattle.whips_steps.specs.Answers.{AllDifferInKey, AreDistinct, IsWhole, step_answer, unstruck}
 use Rattle.whips_view.specs.ViewDefs.{View, keyed, HasBases}
 use Rattle.whips_managers.specs.Managers.{Query, ManagerState, name_of, is_named, with_transaction, with_reply_to, with_reply}
-use Rattle.whips_managers.specs.Messages.{ask_of, Fits}
-use Rattle.whips_ask_laws.specs.Asks.{CanAsk, AllCanAsk, HaveWidths, AreSoundParts}
+use Rattle.whips_managers.specs.Messages.{ask_of, CanAsk, AllCanAsk, widths_of, HaveWidths, Fits}
+use Rattle.whips_ask_laws.specs.Asks.{AreSoundParts}
 
 -- What a query that can be asked asks is one of the steps of its origin, at that step's source.
 abbrev pub AskNamesStep : Type 0
@@ -59,4 +59,4 @@ ReplyToFirst = (v : KeyedView) (columns : Columns) (m : ManagerState) (transacti
 -- Relations with the columns that a view was made with hold rows of these widths, in the order of their keys, at each part.
 abbrev pub BasesAreSoundParts : Type 0
 BasesAreSoundParts = (view : View) (db : List Table) (parts : List ℕ) → AreSoundTables db → HasBases view db → ((part : ℕ) → Has part parts → part < length view.bases)
-    → AreSoundParts (keyed view) (map (λ b. length b.kinds) view.bases) db parts
+    → AreSoundParts (keyed view) (widths_of view) db parts

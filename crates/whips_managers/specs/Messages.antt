@@ -1,11 +1,16 @@
--- What a manager asks, and which replies fit.
-use Rattle.std.specs.Prelude.{◌≡◌, ℕ, ◌+◌, ◌<◌, ◌==◌, ◌&&◌, Bool, true, cond, List, [], ◌∷◌, length, map, drop, Some, None, is_some, slice_index, slice_index_or}
+-- What a manager asks, which open queries can be asked, which transactions have tuples of their relations' widths, and which replies fit.
+use Rattle.std.specs.Prelude.{◌≡◌, ℕ, ◌+◌, ◌<◌, ◌≤◌, ◌==◌, ◌&&◌, Bool, true, cond, List, [], ◌∷◌, length, map, drop, Some, None, is_some, slice_index, slice_index_or}
 use Rattle.std.specs.List.{list_any, AllByRecursion}
 use Rattle.whips_model.specs.Tuples.{Codes}
 use Rattle.whips_choices.specs.KeyedViews.{KeyedView}
 use Rattle.whips_choices.specs.Partials.{Partial}
-use Rattle.whips_steps.specs.Steps.{source_of_step, is_filled}
+use Rattle.whips_rel.specs.declared.update.Update.{Update}
+use Rattle.whips_rel.specs.Updates.{relation_of, tuple_of}
+use Rattle.whips_states.specs.States.{Updates}
+use Rattle.whips_states.specs.Net.{relation_at}
+use Rattle.whips_steps.specs.Steps.{asked_sources, source_of_step, is_filled}
 use Rattle.whips_steps.specs.Answers.{AllDifferInKey}
+use Rattle.whips_view.specs.ViewDefs.{View}
 use Rattle.whips_managers.specs.Managers.{Query, ManagerState, is_named, has_next, moved_on}
 
 -- An ask: the source that is asked, the query by its transaction and origin, its step, and what was found before this step.
@@ -42,6 +47,30 @@ pub record IsFilledBefore (v : KeyedView) (widths : List ℕ) (origin step : ℕ
   pub parts : length p ≡ length v.keys
   pub filled : (part : ℕ) → part < length v.keys → is_some (slice_index_or p part None) ≡ is_filled v origin step part
   pub tuples : (part : ℕ) (t : Codes) → slice_index_or p part None ≡ Some t → length t ≡ slice_index widths part
+
+-- The query can be asked: it began at a part of the view and is at one of the steps of that part; each of its partial choices is filled exactly at the origin and at the parts of the steps before, by tuples of their relations' widths; and any two of them differ in the key of a filled part.
+pub record CanAsk (v : KeyedView) (widths : List ℕ) (q : Query) : Type 0 where
+  pub origin : q.origin < length v.keys
+  pub low : 1 ≤ q.step
+  pub high : q.step ≤ length (asked_sources v q.origin)
+  pub filled : AllByRecursion (IsFilledBefore v widths q.origin q.step) q.partials
+  pub differ : AllDifferInKey v.keys q.partials
+
+-- Each of these queries can be asked.
+abbrev pub AllCanAsk : KeyedView → List ℕ → List Query → Type 0
+AllCanAsk v widths queries = AllByRecursion (CanAsk v widths) queries
+
+-- The width of each of the view's relations.
+abbrev pub widths_of : View → List ℕ
+widths_of view = map (λ b. length b.kinds) view.bases
+
+-- An update of one of the view's relations has a tuple of its width.
+abbrev pub HasWidth : KeyedView → List ℕ → Update → Type 0
+HasWidth v widths u = (part : ℕ) → part < length v.keys → relation_of u ≡ relation_at v part → length (tuple_of u) ≡ slice_index widths part
+
+-- Each update of one of the view's relations has a tuple of its width.
+abbrev pub HaveWidths : KeyedView → List ℕ → Updates → Type 0
+HaveWidths v widths t = AllByRecursion (HasWidth v widths) t
 
 -- The reply fits: a query with its name is open at its step; each of its partial choices is filled exactly at the origin and at the parts of the steps up to that one, by tuples of their relations' widths; and any two of them differ in the key of a filled part.
 pub record Fits (v : KeyedView) (widths : List ℕ) (m : ManagerState) (transaction origin step : ℕ) (partials : List Partial) : Type 0 where

@@ -5,7 +5,7 @@ use Rattle.std.specs.List.{AllByRecursion, flat_map, range_with_len, remove}
 use Rattle.std.proofs.lemmas.List.{length-map}
 use Rattle.whips_model.specs.Tuples.{Codes, Columns, at_columns, IsKeyed}
 use Rattle.whips_model.specs.Members.{Has}
-use Rattle.whips_model.proofs.Members.{has_first, has_later, has_passed, all_from_has}
+use Rattle.whips_model.proofs.Members.{has_first, has_later, has_passed, all_has, all_from_has}
 use Rattle.whips_model.proofs.Keyed.{keyed_filter}
 use Rattle.whips_choices.specs.KeyedViews.{KeyedView, part_key}
 use Rattle.whips_choices.specs.Partials.{Partial, seed}
@@ -22,8 +22,8 @@ use Rattle.whips_view.specs.ViewDefs.{View, keyed, row_columns}
 use Rattle.whips_actions.specs.declared.action.Action.{Action}
 use Rattle.whips_actions.specs.Lists.{IsActionOf, AreActionsOf}
 use Rattle.whips_managers.specs.Managers.{Query, ManagerState, with_pending, with_deletion, with_deletions, with_given, with_put, with_query, with_all_given, with_transaction, put_or_asked, moved_on, has_next, with_reply, kept_where, list_where, without_list}
-use Rattle.whips_managers.specs.Messages.{IsFilledBefore, Fits, ask_of, asks_after}
-use Rattle.whips_strobe.specs.Strobes.{widths_of, HaveWidths, IsQueryOf, IsStateOf}
+use Rattle.whips_managers.specs.Messages.{IsFilledBefore, CanAsk, AllCanAsk, widths_of, HasWidth, HaveWidths, Fits, ask_of, asks_after}
+use Rattle.whips_strobe.specs.Strobes.{IsStateOf}
 use Rattle.whips_strobe.specs.Outs.{all_sent_by, list_by, IsAskOf}
 use Rattle.whips_actions.specs.declared.action.ActionList.{ActionList}
 use Rattle.std.specs.Option.{option_map}
@@ -64,6 +64,9 @@ module _ (view : View) where
   width : length (keyed view).keys ≡ length view.bases
   width = length-map view.bases (λ (b : Columns). b.key)
 
+  at_base : (part : ℕ) → part < length (keyed view).keys → part < length view.bases
+  at_base part lt = let w = width in omega arith
+
   -- ---- a later number
 
   known_later : (low high : ℕ) (qs : List Query) → low ≤ high → AllByRecursion (λ q. q.transaction ≤ low) qs → AllByRecursion (λ q. q.transaction ≤ high) qs
@@ -79,9 +82,9 @@ module _ (view : View) where
   known_pending last part k [] h = tt
   known_pending last part k (q ∷ qs) h = (h.0, known_pending last part k qs h.1)
 
-  queries_pending : (part : ℕ) (k : Codes) (qs : List Query) → AllByRecursion (IsQueryOf view) qs → AllByRecursion (IsQueryOf view) (map (with_pending part k) qs)
+  queries_pending : (part : ℕ) (k : Codes) (qs : List Query) → AllCanAsk (keyed view) (widths_of view) qs → AllCanAsk (keyed view) (widths_of view) (map (with_pending part k) qs)
   queries_pending part k [] h = tt
-  queries_pending part k (q ∷ qs) h = (let g = h.0 in record { origin = g.origin; first = g.first; last = g.last; filled = g.filled; differ = g.differ }, queries_pending part k qs h.1)
+  queries_pending part k (q ∷ qs) h = (let g = h.0 in record { origin = g.origin; low = g.low; high = g.high; filled = g.filled; differ = g.differ }, queries_pending part k qs h.1)
 
   sound_deleted : (keys : List (ℕ × Codes)) (m : ManagerState) → AllByRecursion (λ e. e.0 < length view.bases) keys → IsStateOf view m → IsStateOf view (with_deletions m keys)
   sound_deleted [] m within h = h
@@ -117,11 +120,14 @@ module _ (view : View) where
       go ih None f true g = let same : w ≡ u = cc in subst (λ z. Has z (w ∷ t)) same (has_first w t)
       go ih None f false g = absurd (cc)
 
-  given_widths : (t : Updates) (part : ℕ) → part < length view.bases → HaveWidths view t → AllByRecursion (λ s. length s ≡ slice_index (widths_of view) part) (given_at (keyed view) t part)
+  given_widths : (t : Updates) (part : ℕ) → part < length view.bases → HaveWidths (keyed view) (widths_of view) t → AllByRecursion (λ s. length s ≡ slice_index (widths_of view) part) (given_at (keyed view) t part)
   given_widths t part lt widths = all_from_has (λ s. length s ≡ slice_index (widths_of view) part) (given_at (keyed view) t part) (λ s h.
       let own = (has_passed (meets_part view.parts part) s _ h).0 in
       let last = ((inserted_last (relation_at (keyed view) part) (part_key (keyed view) part) t).1 s).0 own in
-      widths part (Insert (relation_at (keyed view) part) s) lt (last_in (relation_at (keyed view) part) (part_key (keyed view) part) (at_columns (part_key (keyed view) part) s) t _ last) refl)
+      let w = width in
+      let below : part < length (keyed view).keys = omega arith in
+      let there = last_in (relation_at (keyed view) part) (part_key (keyed view) part) (at_columns (part_key (keyed view) part) s) t _ last in
+      all_has (HasWidth (keyed view) (widths_of view)) t widths (Insert (relation_at (keyed view) part) s) there part below refl)
 
   given_keyed : (t : Updates) (part : ℕ) → IsKeyed (part_key (keyed view) part) (given_at (keyed view) t part)
   given_keyed t part = keyed_filter (part_key (keyed view) part) (meets_part view.parts part) _ (inserted_last (relation_at (keyed view) part) (part_key (keyed view) part) t).0
@@ -155,12 +161,12 @@ module _ (view : View) where
           record {
             actions = h.actions;
             known = all_more (λ q. q.transaction ≤ number) m.queries _ (known_later m.last number m.queries le h.known) (omega arith);
-            queries = all_more (IsQueryOf view) m.queries _ h.queries (record { origin = lt; first = omega arith; last = let size = ap length e in omega arith; filled = filled; differ = differ });
+            queries = all_more (CanAsk (keyed view) (widths_of view)) m.queries _ h.queries (record { origin = within; low = omega arith; high = let size = ap length e in omega arith; filled = filled; differ = differ });
           },
           omega arith,
         )
 
-  sound_all_given : (number : ℕ) (t : Updates) (parts : List ℕ) (m : ManagerState) → HaveWidths view t → ((part : ℕ) → Has part parts → part < length view.bases) → m.last ≤ number → IsStateOf view m
+  sound_all_given : (number : ℕ) (t : Updates) (parts : List ℕ) (m : ManagerState) → HaveWidths (keyed view) (widths_of view) t → ((part : ℕ) → Has part parts → part < length view.bases) → m.last ≤ number → IsStateOf view m
       → IsStateOf view (with_all_given (keyed view) (row_columns view) m number (given_at (keyed view) t) parts)
   sound_all_given number t [] m widths lt le h = h
   sound_all_given number t (part ∷ parts) m widths lt le h =
@@ -170,7 +176,7 @@ module _ (view : View) where
 
   -- ---- a transaction
 
-  pub sound_transaction : (m : ManagerState) (number : ℕ) (t : Updates) → m.last < number → HaveWidths view t → IsStateOf view m → IsStateOf view (with_transaction (keyed view) (row_columns view) m number t)
+  pub sound_transaction : (m : ManagerState) (number : ℕ) (t : Updates) → m.last < number → HaveWidths (keyed view) (widths_of view) t → IsStateOf view m → IsStateOf view (with_transaction (keyed view) (row_columns view) m number t)
   sound_transaction m number t lt widths h =
       let numbered = sound_number m number (omega arith) h in
       let deleted = sound_deleted (taken (keyed view) t) (record m { last = number }) (taken_within t) numbered in
@@ -198,22 +204,22 @@ module _ (view : View) where
   -- ---- asks
 
   pub asks_sound : (number first : ℕ) (m : ManagerState) → IsStateOf view m → AllByRecursion (IsAskOf view) (all_sent_by number (map (ask_of (keyed view)) (drop first m.queries)))
-  asks_sound number first m h = go (drop first m.queries) (all_drop (IsQueryOf view) m.queries first h.queries)
+  asks_sound number first m h = go (drop first m.queries) (all_drop (CanAsk (keyed view) (widths_of view)) m.queries first h.queries)
     where
-      go : (qs : List Query) → AllByRecursion (IsQueryOf view) qs → AllByRecursion (IsAskOf view) (all_sent_by number (map (ask_of (keyed view)) qs))
+      go : (qs : List Query) → AllCanAsk (keyed view) (widths_of view) qs → AllByRecursion (IsAskOf view) (all_sent_by number (map (ask_of (keyed view)) qs))
       go [] g = tt
-      go (q ∷ qs) g = (let a = g.0 in record { origin = a.origin; first = a.first; last = a.last; source = refl; filled = a.filled }, go qs g.1)
+      go (q ∷ qs) g = (let a = g.0 in record { origin = at_base q.origin a.origin; first = a.low; last = a.high; source = refl; filled = a.filled }, go qs g.1)
 
   -- ---- a reply
 
   module _ (m : ManagerState) (transaction origin step : ℕ) (ps : List Partial) (fits : Fits (keyed view) (widths_of view) m transaction origin step ps) (h : IsStateOf view m) where
-    moved_sound : (i : ℕ) (r : IsRepliedAt m transaction origin step i) → has_next (keyed view) r.query ≡ true → IsQueryOf view (moved_on r.query ps)
+    moved_sound : (i : ℕ) (r : IsRepliedAt m transaction origin step i) → has_next (keyed view) r.query ≡ true → CanAsk (keyed view) (widths_of view) (moved_on r.query ps)
     moved_sound i r next =
-        let q = all_get (IsQueryOf view) m.queries i r.query h.queries r.at in
+        let q = all_get (CanAsk (keyed view) (widths_of view)) m.queries i r.query h.queries r.at in
         record {
           origin = q.origin;
-          first = omega arith;
-          last = let lt = ltb-true r.query.step (length (asked_sources (keyed view) r.query.origin)) next in omega arith;
+          low = omega arith;
+          high = let lt = ltb-true r.query.step (length (asked_sources (keyed view) r.query.origin)) next in omega arith;
           filled = subst (λ n. AllByRecursion (IsFilledBefore (keyed view) (widths_of view) r.query.origin (n + 1)) ps) (sym r.step_is) (subst (λ o. AllByRecursion (IsFilledBefore (keyed view) (widths_of view) o (step + 1)) ps) (sym r.origin_is) fits.filled);
           differ = fits.differ;
         }
@@ -229,12 +235,12 @@ module _ (view : View) where
         go true next = subst (IsStateOf view) (reply_moves transaction origin (keyed view) (row_columns view) m ps i r.query r.place r.at next) (record {
           actions = h.actions;
           known = all_changed (λ q. q.transaction ≤ m.last) (λ q. moved_on q ps) m.queries i h.known (subst (λ o. IfSome o (λ (q : Query). q.transaction ≤ m.last)) (sym r.at) (all_get (λ q. q.transaction ≤ m.last) m.queries i r.query h.known r.at));
-          queries = all_changed (IsQueryOf view) (λ q. moved_on q ps) m.queries i h.queries (subst (λ o. IfSome o (λ (q : Query). IsQueryOf view (moved_on q ps))) (sym r.at) (moved_sound i r next));
+          queries = all_changed (CanAsk (keyed view) (widths_of view)) (λ q. moved_on q ps) m.queries i h.queries (subst (λ o. IfSome o (λ (q : Query). CanAsk (keyed view) (widths_of view) (moved_on q ps))) (sym r.at) (moved_sound i r next));
         })
         go false next = subst (IsStateOf view) (reply_ends transaction origin (keyed view) (row_columns view) m ps i r.query r.place r.at next) (record {
           actions = all_more (IsActionOf view) m.actions _ h.actions refl;
           known = all_removed (λ q. q.transaction ≤ m.last) m.queries i h.known;
-          queries = all_removed (IsQueryOf view) m.queries i h.queries;
+          queries = all_removed (CanAsk (keyed view) (widths_of view)) m.queries i h.queries;
         })
 
     pub sound_reply : AreInOrder m.queries → IsStateOf view (with_reply (keyed view) (row_columns view) m transaction origin ps)
@@ -248,7 +254,7 @@ module _ (view : View) where
         r = replied_at m m.queries transaction origin step i refl (sym e) order fits.open_query
 
         go : (b : Bool) → has_next (keyed view) r.query ≡ b → AllByRecursion (IsAskOf view) (all_sent_by number (cond b (ask_of (keyed view) (moved_on r.query ps) ∷ []) []))
-        go true next = let a = moved_sound i r next in (record { origin = a.origin; first = a.first; last = a.last; source = refl; filled = a.filled }, tt)
+        go true next = let a = moved_sound i r next in (record { origin = at_base r.query.origin a.origin; first = a.low; last = a.high; source = refl; filled = a.filled }, tt)
         go false next = tt
 
     pub sound_asked : (number : ℕ) → AreInOrder m.queries → AllByRecursion (IsAskOf view) (all_sent_by number (asks_after (keyed view) m.queries transaction origin ps))

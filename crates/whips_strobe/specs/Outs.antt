@@ -8,8 +8,7 @@ use Rattle.whips_query.specs.declared.asks.Ask.{Ask}
 use Rattle.whips_actions.specs.declared.action.Action.{Action}
 use Rattle.whips_actions.specs.declared.action.ActionList.{ActionList}
 use Rattle.whips_managers.specs.Managers.{ManagerState, list_of}
-use Rattle.whips_managers.specs.Messages.{AskData, IsFilledBefore}
-use Rattle.whips_strobe.specs.Strobes.{widths_of}
+use Rattle.whips_managers.specs.Messages.{AskData, IsFilledBefore, widths_of}
 
 -- The ask as it is sent by the manager of this view, beside the source that is asked.
 abbrev pub sent_by : ℕ → AskData → ℕ × Ask

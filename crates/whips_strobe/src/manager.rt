@@ -5,8 +5,8 @@ ghost use Rattle.whips_states.specs.Concerns.{concerns};
 ghost use Rattle.whips_view.specs.ViewDefs.{keyed, row_columns};
 ghost use Rattle.whips_actions.specs.Lists.{AreActionsOf};
 ghost use Rattle.whips_managers.specs.Managers.{new_manager, with_transaction, with_reply, without_list};
-ghost use Rattle.whips_managers.specs.Messages.{new_asks, asks_after, is_open};
-ghost use Rattle.whips_strobe.specs.Strobes.{HaveWidths, FitsManager};
+ghost use Rattle.whips_managers.specs.Messages.{new_asks, asks_after, is_open, widths_of, HaveWidths};
+ghost use Rattle.whips_strobe.specs.Strobes.{FitsManager};
 ghost use Rattle.whips_strobe.specs.Outs.{all_sent_by, list_by, IsAskOf};
 
 use crate::state::State;
@@ -71,7 +71,7 @@ impl Manager {
     pub fn update(&mut self, number: u64, t: &Trans) -> Result<Out, NoMemory>
         requires concerns { concerns self.old.view.parts t.now ≡ true }
         requires later { self.old.state.last < number }
-        requires widths { HaveWidths self.old.view t.now }
+        requires widths { HaveWidths (keyed self.old.view) (widths_of self.old.view) t.now }
         ensures state { OnOk result (self.new ≡ record self.old { state = without_list (with_transaction (keyed self.old.view) (row_columns self.old.view) self.old.state number t.now) }) }
         ensures asks { IfOk result (λ out. out.asks.items ≡ all_sent_by self.old.number (new_asks (keyed self.old.view) self.old.state (with_transaction (keyed self.old.view) (row_columns self.old.view) self.old.state number t.now))) }
         ensures list { IfOk result (λ out. out.list ≡ list_by self.old.number (with_transaction (keyed self.old.view) (row_columns self.old.view) self.old.state number t.now)) }

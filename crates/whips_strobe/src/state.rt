@@ -8,10 +8,9 @@ ghost use Rattle.whips_steps.specs.Steps.{numbers_below};
 ghost use Rattle.whips_steps.specs.Answers.{IsWhole, AllDifferInKey, unstruck};
 ghost use Rattle.whips_view.specs.ViewDefs.{keyed, row_columns};
 ghost use Rattle.whips_managers.specs.Managers.{new_manager, with_deletion, with_deletions, put_of, with_given, with_all_given, with_transaction, moved_on, with_reply, without_list};
-ghost use Rattle.whips_managers.specs.Messages.{ask_of, asks_after, is_open, Fits};
+ghost use Rattle.whips_managers.specs.Messages.{ask_of, asks_after, is_open, AllCanAsk, widths_of, Fits};
 ghost use Rattle.whips_queries.specs.Names.{IsNamedBelow, AreInOrder};
 ghost use Rattle.whips_strobe.specs.Parts.{tuples_at};
-ghost use Rattle.whips_strobe.specs.Strobes.{widths_of, IsQueryOf};
 ghost use Rattle.whips_strobe.specs.Outs.{sent_by, all_sent_by, list_by};
 
 use crate::fits::fit_step;
@@ -258,7 +257,7 @@ impl State {
         r: Reply,
     ) -> Result<Vec<(u32, Ask)>, NoMemory>
         requires fits { Fits (keyed view.now) (widths_of view.now) self.old r.update r.origin r.step r.partials }
-        requires queries { AllByRecursion (IsQueryOf view.now) self.old.queries }
+        requires queries { AllCanAsk (keyed view.now) (widths_of view.now) self.old.queries }
         ensures state { OnOk result (self.new ≡ with_reply (keyed view.now) (row_columns view.now) self.old r.update r.origin r.partials) }
         ensures asks { IfOk result (λ asks. asks.items ≡ all_sent_by r.view (asks_after (keyed view.now) self.old.queries r.update r.origin r.partials)) }
         ensures in_order { OnOk result (AreInOrder self.old.queries) }

@@ -2,7 +2,8 @@
 ghost use Rattle.std.specs.Prelude.{◌≡◌, [], ◌∷◌, length, IfOk, OnOk};
 ghost use Rattle.whips_model.specs.declared.Kind.TheVariants.{Number};
 ghost use Rattle.whips_rel.specs.declared.update.Update.TheVariants.{Insert};
-ghost use Rattle.whips_strobe.specs.Strobes.{HaveWidths};
+ghost use Rattle.whips_view.specs.ViewDefs.{keyed};
+ghost use Rattle.whips_managers.specs.Messages.{widths_of, HaveWidths};
 
 use crate::{Manager, Out};
 use std::alloc::Global;
@@ -62,7 +63,7 @@ fn insertion(alloc: Global) -> Result<Trans, NoMemory>
 fn take(manager: &mut Manager, view: &ViewDef, t: &Trans) -> Result<Out, NoMemory>
     requires view { manager.old.view ≡ view.now }
     requires last { manager.old.state.last ≡ 0 }
-    requires widths { HaveWidths view.now t.now }
+    requires widths { HaveWidths (keyed view.now) (widths_of view.now) t.now }
 {
     if !view.touches(t) {
         return Err(NoMemory);
