@@ -1,6 +1,4 @@
 //! Stores of two views at version 0.
-ghost use Rattle.std.specs.Prelude.{◌≡◌, [], ◌∷◌, IfOk};
-
 use crate::rows::{pair_schema, pairs};
 use std::alloc::Global;
 use std::test::Fail;
@@ -22,37 +20,20 @@ fn parts(alloc: Global) -> Result<ViewParts, NoMemory> {
     })
 }
 
-/// The list of one item.
-fn one<T: Drop>(alloc: Global, item: T) -> Result<Vec<T>, NoMemory> {
-    let mut items = Vec::new(alloc);
-    items.push(item)?;
-    Ok(items)
-}
-
-/// The list of two items.
-pub fn two<T: Drop>(alloc: Global, first: T, second: T) -> Result<Vec<T>, NoMemory>
-    ensures { IfOk result (λ v. v.items ≡ first ∷ second ∷ []) }
-{
-    let mut items = Vec::new(alloc);
-    items.push(first)?;
-    items.push(second)?;
-    Ok(items)
-}
-
 /// The view of all of the relation, twice.
 fn views(alloc: Global, schemas: &Vec<Schema>) -> Result<Vec<ViewDef>, Fail> {
     let first = ViewDef::make(alloc, schemas, parts(alloc)?)?;
     let second = ViewDef::make(alloc, schemas, parts(alloc)?)?;
-    Ok(two(alloc, first, second)?)
+    Ok(vec![in alloc; first, second]?)
 }
 
 /// One relation of the rows (1, 5) and (2, 5), and two views of all of it, with so many slots.
 fn setup(alloc: Global, slots: (u32, u32)) -> Result<Setup, Fail> {
-    let schemas = one(alloc, pair_schema(alloc)?)?;
+    let schemas = vec![in alloc; pair_schema(alloc)?]?;
     let views = views(alloc, &schemas)?;
-    let homes = one(alloc, 0u32)?;
-    let initial = one(alloc, pairs(alloc, &[(1, Some(5)), (2, Some(5))])?)?;
-    let slots = two(alloc, slots.0, slots.1)?;
+    let homes = vec![in alloc; 0u32]?;
+    let initial = vec![in alloc; pairs(alloc, &[(1, Some(5)), (2, Some(5))])?]?;
+    let slots = vec![in alloc; slots.0, slots.1]?;
     Ok(Setup::make(schemas, homes, initial, views, slots, 1)?)
 }
 

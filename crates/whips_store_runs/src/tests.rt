@@ -6,22 +6,19 @@ use std::alloc::Global;
 use std::process::Abort;
 use std::test::Fail;
 use whips_plain::Plain;
-use whips_rel::NoMemory;
+use whips_rel::{NoMemory, Tuple};
 use whips_store::{Store, StoreErr};
 
 /// The code of the key in the current rows of the view.
-fn current(store: &Plain, x: u32, key: u64) -> Option<u64> {
+fn current(alloc: Global, store: &Plain, x: u32, key: u64) -> Result<Option<u64>, NoMemory> {
     if x >= store.views() {
-        return None;
+        return Err(NoMemory);
     }
-    for row in store.current(x).rows() {
-        if let [first, code] = row.codes() {
-            if *first == key {
-                return Some(*code);
-            }
-        }
+    let key = Tuple::from_slice(alloc, &[key])?;
+    match store.current(x).get(&key) {
+        Some(row) => Ok(row.codes().get(1).copied()),
+        None => Ok(None),
     }
-    None
 }
 
 #[test]
@@ -55,10 +52,10 @@ fn both_views_change_in_one_transaction(rt: HostRuntime) -> Result<(), Fail> {
     assert_eq!(rt; store.left(), 3);
     change_all(&mut store);
     assert_eq!(rt; shown(alloc, &store, 0, 0)?.as_str(), "1: 1=5 2=5 - -");
-    assert_eq!(rt; current(&store, 1, 2), Some(5));
+    assert_eq!(rt; current(alloc, &store, 1, 2)?, Some(5));
     publish(&mut store);
-    assert_eq!(rt; current(&store, 0, 1), None);
-    assert_eq!(rt; current(&store, 1, 2), Some(9));
+    assert_eq!(rt; current(alloc, &store, 0, 1)?, None);
+    assert_eq!(rt; current(alloc, &store, 1, 2)?, Some(9));
     assert_eq!(rt; shown(alloc, &store, 0, 0)?.as_str(), "2: 1=5 2=5 - -");
     assert_eq!(rt; shown(alloc, &store, 0, 1)?.as_str(), "2: - 2=5 3=5 -");
     assert_eq!(rt; shown(alloc, &store, 1, 0)?.as_str(), "2: 1=5 2=5 -");

@@ -4,7 +4,6 @@ ghost use Rattle.whips_store.specs.Stores.{view_in};
 ghost use Rattle.whips_store.specs.Calls.{AreNet, AreNetChanges};
 
 use crate::rows::{are_rows_within, edited};
-use crate::start::two;
 use std::alloc::Global;
 use whips_net::net;
 use whips_rel::{Change, NoMemory, Rows};
@@ -44,7 +43,7 @@ fn changes_of<S: Store>(
     let one = part(alloc, store, 0, first)?;
     let other = part(alloc, store, 1, second)?;
     Ok(Changes {
-        views: two(alloc, one, other)?,
+        views: vec![in alloc; one, other]?,
     })
 }
 
