@@ -29,6 +29,10 @@ raced = transaction 1 (single (Insert 0 (row2 1 5))) ∷ transaction 2 (single (
 abbrev pub answered_before : List Message
 answered_before = transaction 1 (single (Insert 0 (row2 1 5))) ∷ reply 1 0 (both (row2 1 5) (row2 7 5) ∷ []) ∷ transaction 2 (single (Delete 1 (row2 7 5))) ∷ []
 
+-- an answer that was taken after the deletion of what it would have found
+abbrev pub answered_after : List Message
+answered_after = transaction 1 (single (Insert 0 (row2 1 5))) ∷ transaction 2 (single (Delete 1 (row2 7 5))) ∷ reply 1 0 [] ∷ []
+
 -- a deletion while the second step is open
 abbrev pub second_step : List Message
 second_step = transaction 1 (single (Insert 0 (row2 1 5))) ∷ reply 1 0 ((Some (row2 1 5) ∷ Some (row2 7 5) ∷ None ∷ []) ∷ []) ∷ []
@@ -46,7 +50,7 @@ replaced = transaction 1 (Delete 0 (row2 1 6) ∷ Insert 0 (row2 1 5) ∷ []) �
 
 -- a transaction of two updates while a query is open, whose answer has what the transaction inserts
 abbrev pub raced_transaction : List Message
-raced_transaction = transaction 1 (single (Insert 0 (row2 1 5))) ∷ transaction 2 (Delete 1 (row2 7 5) ∷ Insert 1 (row2 8 5) ∷ []) ∷ reply 1 0 (both (row2 1 5) (row2 7 5) ∷ []) ∷ reply 2 1 (both (row2 1 5) (row2 8 5) ∷ []) ∷ []
+raced_transaction = transaction 1 (single (Insert 0 (row2 1 5))) ∷ transaction 2 (Delete 1 (row2 7 5) ∷ Insert 1 (row2 8 5) ∷ []) ∷ reply 1 0 (both (row2 1 5) (row2 8 5) ∷ []) ∷ reply 2 1 (both (row2 1 5) (row2 8 5) ∷ []) ∷ []
 
 -- a reply with tuples that no source has
 abbrev pub strange : List Message

@@ -7,7 +7,7 @@ ghost use Rattle.whips_managers.specs.Managers.{new_manager};
 ghost use Rattle.whips_managers.specs.Messages.{ask_of};
 ghost use Rattle.whips_vectors.specs.Scripts.{row2, row3};
 ghost use Rattle.whips_manager_vectors.specs.Runs.{lists_from, state_after};
-ghost use Rattle.whips_manager_vectors.specs.Races.{two, three, raced, answered_before, second_step, deleted_later, two_lives, replaced, raced_transaction, strange};
+ghost use Rattle.whips_manager_vectors.specs.Races.{two, three, raced, answered_before, answered_after, second_step, deleted_later, two_lives, replaced, raced_transaction, strange};
 
 /// Two insertions that find each other's tuple are covered by one list, and the row comes once.
 pub fn raced_insertions_share_one_list()
@@ -17,6 +17,11 @@ pub fn raced_insertions_share_one_list()
 /// What was answered before a deletion comes, and the deletion's own list takes it away.
 pub fn a_row_comes_and_goes()
     ensures { lists_from two (new_manager 0) [] answered_before ≡ (1, row3 1 7 5 ∷ []) ∷ (2, []) ∷ [] }
+{}
+
+/// What is answered after a deletion doesn't have what was deleted, and one list covers both.
+pub fn a_deletion_waits_for_an_open_query()
+    ensures { lists_from two (new_manager 0) [] answered_after ≡ (2, []) ∷ [] }
 {}
 
 /// After the first of two steps the query is asked at the second, at the last source.
