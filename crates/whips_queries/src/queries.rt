@@ -1,15 +1,16 @@
 //! Open queries in the order of their names, and the deletions that came since the oldest of them began.
 ghost use Rattle.std.specs.Prelude.{◌≡◌, ◌<◌, ◌+◌, ◌^◌, ◌==◌, [], ◌∷◌, ◌++◌, length, map, take, drop, remove, slice_get, Some, OnOk, OnErr, IfSome};
-ghost use Rattle.std.specs.List.{AllByRecursion};
+ghost use Rattle.std.specs.List.{AllByRecursion, list_any};
 ghost use Rattle.std.specs.Option.{option_map};
 ghost use Rattle.whips_model.specs.Tuples.{codes_cmp};
 ghost use Rattle.whips_states.specs.States.{changed_at};
 ghost use Rattle.whips_managers.specs.Managers.{with_pending, moved_on};
 ghost use Rattle.whips_queries.specs.Names.{name_codes, IsNamedBelow, AreInOrder, place_named};
+ghost use Rattle.whips_queries.specs.Deletions.{is_entry, pending_at};
 
 use std::alloc::Global;
 use std::cmp::Ordering;
-use std::collections::VecDeque;
+use std::collections::{HashMap, VecDeque};
 use std::marker::Model;
 use whips_query::Partials;
 use whips_rel::{NoMemory, Tuple, Tuples};
@@ -26,23 +27,26 @@ struct OpenQuery {
 }
 
 /// The open queries of a manager in the order of their names, seen as their list. The keys that were deleted since the
-/// oldest one began stand in one list, and a query's pending deletions are the part of it behind the query's own place.
+/// oldest one began stand in one list, and a query's pending deletions are the part of it behind the query's own place. Each
+/// key has the place where it stands last, so that a look-up tells whether it is pending for a query.
 #[derive(Drop)]
 pub struct Queries {
     items: VecDeque<OpenQuery>,
     deleted: Vec<(u32, Tuple)>,
+    last: HashMap<(u32, Tuple), usize>,
 }
 
 impl Model for Queries {
     ghost use Rattle.std.specs.Prelude.{List, map};
     ghost use Rattle.whips_managers.specs.Managers.{Query};
     ghost use Rattle.whips_queries.specs.OpenQueries.{query_of, AreOver};
+    ghost use Rattle.whips_queries.specs.Deletions.{ArePlaced};
 
     ghost Value = { List Query };
 
     ghost view = { λ q. map (query_of q.deleted.items) q.items.items };
 
-    ghost invariant = { λ q. AreOver q.deleted.items q.items.items };
+    ghost invariant = { λ q. AreOver q.deleted.items q.items.items × ArePlaced q.deleted.items q.last.entries };
 }
 
 /// How the query's name compares to this one.
@@ -63,6 +67,7 @@ impl Queries {
         Queries {
             items: VecDeque::new(alloc),
             deleted: Vec::new(alloc),
+            last: HashMap::new(alloc),
         }
     }
 
@@ -131,6 +136,18 @@ impl Queries {
         &self.deleted[since..]
     }
 
+    /// Whether the key was deleted at its part since the query began. It takes one look-up, however many keys are pending.
+    pub fn is_pending(&self, i: usize, entry: &(u32, Tuple)) -> bool
+        requires { i < length self.now }
+        ensures { result ≡ list_any (is_entry entry.now) (pending_at self.now i) }
+    {
+        let since = self.items[i].since;
+        match self.last.get(entry) {
+            Some(place) => since <= *place,
+            None => false,
+        }
+    }
+
     /// Begins a query with these tuples at its origin. Its name is above those of all others.
     pub fn begin(
         &mut self,
@@ -163,7 +180,14 @@ impl Queries {
         if self.items.is_empty() {
             return Ok(());
         }
-        self.deleted.push((part, key.copy()?))?;
+        let own = key.copy()?;
+        let listed = key.copy()?;
+        let place = self.deleted.len();
+        self.deleted.push((part, listed))?;
+        if let Err(_) = self.last.insert((part, own), place) {
+            let _listed = self.deleted.pop();
+            return Err(NoMemory);
+        }
         Ok(())
     }
 
@@ -186,6 +210,7 @@ impl Queries {
         let _query = self.items.remove(i);
         if self.items.is_empty() {
             self.deleted.clear();
+            self.last.clear();
         }
     }
 }

@@ -39,6 +39,19 @@ fn a_query_is_found_by_its_name(rt: HostRuntime) -> Result<(), Fail> {
 }
 
 #[test]
+fn a_deletion_is_pending_for_the_queries_before_it(rt: HostRuntime) -> Result<(), Fail> {
+    let mut queries = one_pending(rt.alloc())?;
+    queries.begin(3, 1, Tuples::new(rt.alloc()), Partials::new(rt.alloc()))?;
+    let deleted = (0, Tuple::from_slice(rt.alloc(), &[7])?);
+    let elsewhere = (1, Tuple::from_slice(rt.alloc(), &[7])?);
+    assert_eq!(rt; queries.len(), 2);
+    assert!(rt; queries.is_pending(0, &deleted));
+    assert!(rt; !queries.is_pending(0, &elsewhere));
+    assert!(rt; !queries.is_pending(1, &deleted));
+    Ok(())
+}
+
+#[test]
 fn a_query_moves_on_and_is_closed(rt: HostRuntime) -> Result<(), Fail> {
     let mut queries = one_open(rt.alloc())?;
     queries.move_on(0, Partials::new(rt.alloc()));

@@ -5,3 +5,4 @@ pub mod Replies
 pub mod Sound
 pub mod Wide
 pub mod Fitted
+mod Strikes

@@ -2,3 +2,4 @@ pub mod Strobes
 pub mod Outs
 pub mod Parts
 pub mod Fitting
+pub mod Strikes

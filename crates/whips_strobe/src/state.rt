@@ -243,7 +243,7 @@ impl State {
         requires keys { AllDifferInKey (map (λ b. b.key) view.now.bases) partials.now }
         ensures { OnOk result (IfSome (slice_get self.old.queries i) (λ q. self.new ≡ record self.old { actions = self.old.actions ++ put_of (keyed view.now) (row_columns view.now) (unstruck (keyed view.now) q.pending partials.now) ∷ []; queries = remove self.old.queries i })) }
     {
-        let left = unstruck(alloc, view, self.queries.pending(i), partials)?;
+        let left = unstruck(alloc, view, &self.queries, i, partials)?;
         self.put(alloc, view, &left)?;
         self.queries.close(i);
         Ok(())

@@ -1,55 +1,115 @@
 //! Choices with pending keys are struck.
-ghost use Rattle.std.specs.Prelude.{◌≡◌, ◌<◌, [], length, map, not, IfOk};
-ghost use Rattle.std.specs.List.{list_any, filter};
-ghost use Rattle.whips_steps.specs.Answers.{has_key_at, unstruck};
+ghost use Rattle.std.specs.Prelude.{◌≡◌, ◌<◌, ◌≤◌, [], length, IfOk, slice_index, slice_index_or};
+ghost use Rattle.std.specs.List.{list_any, AllByRecursion};
+ghost use Rattle.whips_model.specs.Tuples.{at_columns};
+ghost use Rattle.whips_choices.specs.Partials.{slot};
+ghost use Rattle.whips_steps.specs.Answers.{has_key_at, unstruck, IsWhole};
 ghost use Rattle.whips_view.specs.ViewDefs.{keyed};
+ghost use Rattle.whips_queries.specs.Deletions.{pending_at};
+ghost use Rattle.whips_strobe.specs.Strikes.{is_struck_at, is_struck_below};
 
 use std::alloc::Global;
+use whips_queries::Queries;
 use whips_query::{Partial, Partials};
 use whips_rel::{NoMemory, Tuple};
 use whips_view::ViewDef;
 
-/// Whether the partial choice has the tuple with this key at the part.
-fn has_key_at(view: &ViewDef, partial: &Partial, part: u32, key: &Tuple) -> bool
-    ensures { result ≡ has_key_at (keyed view.now) partial.now (part, key.now) }
+/// The code in the column, or 0 where there is none.
+fn code_in(tuple: &Tuple, column: u32) -> u64
+    ensures { result ≡ slice_index tuple.now column }
+{
+    tuple.codes().get(column as usize).copied().unwrap_or(0)
+}
+
+/// The codes of the tuple in these columns.
+fn codes_in(alloc: Global, tuple: &Tuple, columns: &[u32]) -> Result<Tuple, NoMemory>
+    ensures { IfOk result (λ k. k ≡ at_columns columns.now tuple.now) }
+{
+    let mut codes = Vec::with_capacity(alloc, columns.len())?;
+    for column in columns {
+        codes.push(code_in(tuple, *column))?;
+    }
+    Tuple::of(codes)
+}
+
+/// Whether the key of the tuple at the part, where there is one, is pending for the query at place `i`.
+fn is_struck_at(
+    alloc: Global,
+    view: &ViewDef,
+    queries: &Queries,
+    i: usize,
+    partial: &Partial,
+    part: u32,
+) -> Result<bool, NoMemory>
+    requires place { i < length queries.now }
+    requires part { part < length view.now.bases }
+    ensures { IfOk result (λ b. b ≡ is_struck_at (pending_at queries.now i) part (slice_index_or (keyed view.now).keys part []) (slot partial.now part)) }
 {
     match partial.get(part) {
-        None => false,
+        None => Ok(false),
         Some(tuple) => {
-            if (part as usize) < view.parts().relations().len() {
-                view.base(part).compare_key(tuple, key).is_eq()
-            } else {
-                key.codes().is_empty()
-            }
+            let key = codes_in(alloc, tuple, view.base(part).key())?;
+            Ok(queries.is_pending(i, &(part, key)))
         }
     }
 }
 
-/// Whether the partial choice has one of these keys, each with its part.
-fn is_struck(view: &ViewDef, partial: &Partial, pending: &[(u32, Tuple)]) -> bool
-    ensures { result ≡ list_any (has_key_at (keyed view.now) partial.now) pending.now }
+/// Whether one of the first `n` parts has a tuple whose key is pending for the query at place `i`.
+fn is_struck_below(
+    alloc: Global,
+    view: &ViewDef,
+    queries: &Queries,
+    i: usize,
+    partial: &Partial,
+    n: u32,
+) -> Result<bool, NoMemory>
+    requires place { i < length queries.now }
+    requires parts { n ≤ length view.now.bases }
+    ensures { IfOk result (λ b. b ≡ is_struck_below (keyed view.now).keys (pending_at queries.now i) partial.now n) }
 {
-    for entry in pending {
-        if has_key_at(view, partial, entry.0, &entry.1) {
-            return true;
-        }
+    if n == 0 {
+        return Ok(false);
     }
-    false
+    if is_struck_below(alloc, view, queries, i, partial, n - 1)? {
+        return Ok(true);
+    }
+    is_struck_at(alloc, view, queries, i, partial, n - 1)
 }
 
-/// The partial choices that have none of these keys, each with its part.
+/// Whether the partial choice has a key that is pending for the query at place `i`.
+fn is_struck(
+    alloc: Global,
+    view: &ViewDef,
+    queries: &Queries,
+    i: usize,
+    partial: &Partial,
+) -> Result<bool, NoMemory>
+    requires place { i < length queries.now }
+    requires width { length partial.now ≡ length view.now.bases }
+    ensures { IfOk result (λ b. b ≡ list_any (has_key_at (keyed view.now) partial.now) (pending_at queries.now i)) }
+{
+    let n = view.parts().relations().len();
+    is_struck_below(alloc, view, queries, i, partial, n as u32)
+}
+
+/// The partial choices that have no key that is pending for the query at place `i`. Each choice takes one look-up for each
+/// part, however many keys are pending.
 pub fn unstruck(
     alloc: Global,
     view: &ViewDef,
-    pending: &[(u32, Tuple)],
+    queries: &Queries,
+    i: usize,
     partials: &Partials,
 ) -> Result<Partials, NoMemory>
-    ensures { IfOk result (λ ps. ps ≡ unstruck (keyed view.now) pending.now partials.now) }
+    requires place { i < length queries.now }
+    requires whole { AllByRecursion (IsWhole (length view.now.bases)) partials.now }
+    ensures { IfOk result (λ ps. ps ≡ unstruck (keyed view.now) (pending_at queries.now i) partials.now) }
 {
     let mut left = Partials::new(alloc);
-    for i in 0..partials.len() {
-        if !is_struck(view, partials.at(i), pending) {
-            left.push(partials, i)?;
+    for place in 0..partials.len() {
+        let struck = is_struck(alloc, view, queries, i, partials.at(place))?;
+        if !struck {
+            left.push(partials, place)?;
         }
     }
     Ok(left)

@@ -11,7 +11,7 @@ invariant_of-self-else-is_empty c =
     let size = ap length c.self.view_is in
     let lt : c.args.i < deque_len c.self.inside.items = omega (arith, size, c.self.inside.items.ok.0, length-map c.self.inside.items.items (query_of c.self.inside.deleted.items)) in
     let left = removed_is _ c.self.inside.items.items c.remove-query.new.self.items c.args.i (deque_len c.self.inside.items) c.remove-query.ensures.items c.remove-query.ensures.variant lt in
-    subst (λ l. AreOver c.self.inside.deleted.items l) (sym left) (over_removed c.self.inside.deleted.items c.self.inside.items.items c.args.i c.self.invariant)
+    (subst (λ l. AreOver c.self.inside.deleted.items l) (sym left) (over_removed c.self.inside.deleted.items c.self.inside.items.items c.args.i c.self.invariant.0), c.self.invariant.1)
 
 pub returns : goal.returns
 returns c =

@@ -9,7 +9,7 @@ use Rattle.whips_queries.proofs.queries.Queries.move_on.Goals as goal
 pub invariant_of-self : goal.invariant_of-self
 invariant_of-self c =
     let lt : c.args.i < length c.self.inside.items.items = omega (arith, ap length c.self.view_is, length-map c.self.inside.items.items (query_of c.self.inside.deleted.items)) in
-    over_moved c.self.inside.deleted.items c.args.partials c.self.inside.items.items c.args.i c.index_mut-query.result.now c.self.invariant lt c.index_mut-query.ensures.value
+    (over_moved c.self.inside.deleted.items c.args.partials c.self.inside.items.items c.args.i c.index_mut-query.result.now c.self.invariant.0 lt c.index_mut-query.ensures.value, c.self.invariant.1)
 
 pub returns : goal.returns
 returns c =

@@ -1,0 +1,120 @@
+-- A choice has a pending key exactly where the look-up at one of its parts finds one.
+use Rattle.std.proofs.Common.{◌≡◌, inl, inr, ℕ, zero, suc, ◌≤◌, Bool, true, false, ◌&&◌, ◌||◌, nat_eq, nat_lt, Option, Some, None, List, [], ◌∷◌, length, refl, sym, ap, ap₂, subst, ◌∙◌, arith}
+use Rattle.std.specs.Prelude.{slice_get, slice_index_or}
+use Rattle.std.specs.List.{list_any, AllByRecursion}
+use Rattle.std.specs.Cmp.Lexicographic.{texts_ties}
+use Rattle.std.proofs.lemmas.Bool.{cases_eq}
+use Rattle.std.proofs.lemmas.Bool.Decides.{nat_tests}
+use Rattle.whips_model.specs.Tuples.{Codes, at_columns}
+use Rattle.whips_choices.specs.KeyedViews.{KeyedView}
+use Rattle.whips_choices.specs.Partials.{Partial}
+use Rattle.whips_steps.specs.Answers.{is_key, has_key_at, IsWhole}
+use Rattle.whips_queries.specs.Deletions.{is_entry}
+use Rattle.whips_strobe.specs.Strikes.{is_struck_at, is_struck_below}
+
+or_swap : (a b c d : Bool) → ((a || b) || (c || d)) ≡ ((a || c) || (b || d))
+or_swap true b c d = refl
+or_swap false true true d = refl
+or_swap false true false d = refl
+or_swap false false c d = refl
+
+or_false : (a : Bool) → (a || false) ≡ a
+or_false true = refl
+or_false false = refl
+
+and_false : (a : Bool) → (a && false) ≡ false
+and_false true = refl
+and_false false = refl
+
+-- a place past the end is not filled
+past_end : (p : Partial) (n : ℕ) → length p ≤ n → slice_index_or p n None ≡ None
+past_end [] n le = refl
+past_end (s ∷ p) zero le = absurd (omega arith)
+past_end (s ∷ p) (suc n) le = past_end p n (omega arith)
+
+module _ (v : KeyedView) (p : Partial) where
+  -- no key is pending
+  none_below : (n : ℕ) → is_struck_below v.keys [] p n ≡ false
+  none_below zero = refl
+  none_below (suc n) = ap₂ (λ a b. a || b) (none_below n) (none_at (slice_index_or p n None))
+    where
+      none_at : (o : Option Codes) → is_struck_at [] n (slice_index_or v.keys n []) o ≡ false
+      none_at None = refl
+      none_at (Some t) = refl
+
+  -- one key and the others
+  more_below : (e : ℕ × Codes) (es : List (ℕ × Codes)) (n : ℕ) → is_struck_below v.keys (e ∷ es) p n ≡ (is_struck_below v.keys (e ∷ []) p n || is_struck_below v.keys es p n)
+  more_below e es zero = refl
+  more_below e es (suc n) =
+      ap₂ (λ a b. a || b) (more_below e es n) (more_at (slice_index_or p n None))
+      ∙ or_swap (is_struck_below v.keys (e ∷ []) p n) (is_struck_below v.keys es p n) (is_struck_at (e ∷ []) n (slice_index_or v.keys n []) (slice_index_or p n None)) (is_struck_at es n (slice_index_or v.keys n []) (slice_index_or p n None))
+    where
+      more_at : (o : Option Codes) → is_struck_at (e ∷ es) n (slice_index_or v.keys n []) o ≡ (is_struck_at (e ∷ []) n (slice_index_or v.keys n []) o || is_struck_at es n (slice_index_or v.keys n []) o)
+      more_at None = refl
+      more_at (Some t) = ap (λ a. a || list_any (is_entry (n, at_columns (slice_index_or v.keys n []) t)) es) (sym (or_false (is_entry (n, at_columns (slice_index_or v.keys n []) t) e)))
+
+  -- one key at one part
+  one_at : (e : ℕ × Codes) (n : ℕ) (columns : List ℕ) (o : Option Codes) → is_struck_at (e ∷ []) n columns o ≡ (nat_eq n e.0 && is_key columns e.1 o)
+  one_at e n columns None = sym (and_false (nat_eq n e.0))
+  one_at e n columns (Some t) = or_false (is_entry (n, at_columns columns t) e) ∙ ap (λ b. nat_eq n e.0 && b) (texts_ties (at_columns columns t) e.1)
+
+  -- one key
+  one_below : (e : ℕ × Codes) (n : ℕ) → is_struck_below v.keys (e ∷ []) p n ≡ (nat_lt e.0 n && has_key_at v p e)
+  one_below e zero = ap (λ b. b && has_key_at v p e) (not_below e.0)
+    where
+      not_below : (k : ℕ) → false ≡ nat_lt k 0
+      not_below k = grind (arith, nat_tests)
+  one_below e (suc n) = ap₂ (λ a b. a || b) (one_below e n) (one_at e n (slice_index_or v.keys n []) (slice_index_or p n None)) ∙ elim (cases_eq n e.0) [
+    | inl same ↦ here same (has_key_at v p e)
+    | inr other ↦ there other (has_key_at v p e) (is_key (slice_index_or v.keys n []) e.1 (slice_index_or p n None))
+  ]
+    where
+      bounds : n ≡ e.0 → (nat_lt e.0 n ≡ false) × (nat_eq n e.0 ≡ true) × (nat_lt e.0 (suc n) ≡ true)
+      bounds same = (grind (arith, nat_tests), grind (arith, nat_tests), grind (arith, nat_tests))
+
+      -- the key's own part
+      here : n ≡ e.0 → (b : Bool) → ((nat_lt e.0 n && b) || (nat_eq n e.0 && is_key (slice_index_or v.keys n []) e.1 (slice_index_or p n None))) ≡ (nat_lt e.0 (suc n) && has_key_at v p e)
+      here same b = let is = bounds same in
+          ap₂ (λ x y. (x && b) || (y && is_key (slice_index_or v.keys n []) e.1 (slice_index_or p n None))) is.0 is.1
+          ∙ ap (λ k. is_key (slice_index_or v.keys k []) e.1 (slice_index_or p k None)) same ∙ ap (λ x. x && has_key_at v p e) (sym is.2)
+
+      -- another part
+      apart : (n ≡ e.0 → ⊥) → (nat_eq n e.0 ≡ false) × (nat_lt e.0 n ≡ nat_lt e.0 (suc n))
+      apart other = (grind (arith, nat_tests), below_same (e.0) n other)
+        where
+          below_same : (k n : ℕ) → (n ≡ k → ⊥) → nat_lt k n ≡ nat_lt k (suc n)
+          below_same k n ne = grind (arith, nat_tests)
+
+      there : (n ≡ e.0 → ⊥) → (b c : Bool) → ((nat_lt e.0 n && b) || (nat_eq n e.0 && c)) ≡ (nat_lt e.0 (suc n) && b)
+      there other b c = let is = apart other in ap₂ (λ x y. (x && b) || (y && c)) is.1 is.0 ∙ or_false (nat_lt e.0 (suc n) && b)
+
+  -- a key of a part that the choice doesn't have
+  one_whole : (e : ℕ × Codes) (n : ℕ) → length p ≤ n → (nat_lt e.0 n && has_key_at v p e) ≡ has_key_at v p e
+  one_whole e n le = go (nat_lt e.0 n) refl
+    where
+      past : (k n : ℕ) → nat_lt k n ≡ false → n ≤ k
+      past k n is = grind (arith, nat_tests)
+
+      go : (b : Bool) → nat_lt e.0 n ≡ b → (nat_lt e.0 n && has_key_at v p e) ≡ has_key_at v p e
+      go true is = ap (λ b. b && has_key_at v p e) is
+      go false is = let behind = past e.0 n is in
+          ap (λ b. b && has_key_at v p e) is ∙ sym (ap (is_key (slice_index_or v.keys e.0 []) e.1) (past_end p e.0 (omega arith)))
+
+  -- the look-ups at all parts find a pending key exactly where the choice has one
+  pub struck_is : (pending : List (ℕ × Codes)) (n : ℕ) → length p ≤ n → is_struck_below v.keys pending p n ≡ list_any (has_key_at v p) pending
+  struck_is [] n le = none_below n
+  struck_is (e ∷ es) n le = more_below e es n ∙ ap₂ (λ a b. a || b) (one_below e n ∙ one_whole e n le) (struck_is es n le)
+
+-- the look-ups at the first n parts, where those before the last find nothing
+pub last_below : (keys : List (List ℕ)) (pending : List (ℕ × Codes)) (p : Partial) (m n : ℕ) → n ≡ suc m → is_struck_below keys pending p m ≡ false → is_struck_at pending m (slice_index_or keys m []) (slice_index_or p m None) ≡ is_struck_below keys pending p n
+last_below keys pending p m n e earlier = subst (λ k. is_struck_at pending m (slice_index_or keys m []) (slice_index_or p m None) ≡ is_struck_below keys pending p k) (sym e) (sym (ap (λ b. b || is_struck_at pending m (slice_index_or keys m []) (slice_index_or p m None)) earlier))
+
+-- the same, where one of those before the last finds a key
+pub found_below : (keys : List (List ℕ)) (pending : List (ℕ × Codes)) (p : Partial) (m n : ℕ) → n ≡ suc m → is_struck_below keys pending p m ≡ true → true ≡ is_struck_below keys pending p n
+found_below keys pending p m n e earlier = subst (λ k. true ≡ is_struck_below keys pending p k) (sym e) (sym (ap (λ b. b || is_struck_at pending m (slice_index_or keys m []) (slice_index_or p m None)) earlier))
+
+-- each choice has a place for each part
+pub whole_at : (n : ℕ) (ps : List Partial) (i : ℕ) (p : Partial) → AllByRecursion (IsWhole n) ps → slice_get ps i ≡ Some p → length p ≡ n
+whole_at n [] i p h e = absurd (cc)
+whole_at n (q ∷ ps) zero p h e = let same : q ≡ p = cc in subst (λ (z : Partial). length z ≡ n) same (h.0).width
+whole_at n (q ∷ ps) (suc i) p h e = whole_at n ps i p h.1 e
