@@ -5,7 +5,7 @@ use Rattle.std.specs.List.{sum_by}
 use Rattle.std.proofs.lemmas.List.Sums.{sum_by-cons}
 use Rattle.std.proofs.lemmas.Bool.Decides.{leb_tells}
 use Rattle.whips_setup.specs.declared.error.SetupErr.TheVariants.{Slots, Limit}
-use Rattle.std.proofs.lemmas.List.{length-map, length-append, take_all, drop_all}
+use Rattle.std.proofs.lemmas.List.{length-map, length-append, drop_all}
 use Rattle.whips_rel.specs.declared.update.Change.{Change}
 use Rattle.whips_model.specs.Tuples.{Codes}
 use Rattle.whips_vnl.specs.declared.record.Vstep.{Vstep}

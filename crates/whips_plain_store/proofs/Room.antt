@@ -123,9 +123,9 @@ added cols before after t keyed h none = go (row_at cols (at_columns cols t) (un
 -- ---- slots for all keys
 
 module _ (cols : List ℕ) (records : List (List Vstep)) (index : IndexData) (after : List Codes) (keys : List Codes) (h : IsIndex cols records index)
-  (one : HasSlotForKey cols index.versions index.committed records) (rising : IsStrictlySortedBy nat_cmp index.free)
-  (enough : length (unknown_keys cols index.versions index.committed records keys) ≤ length index.free)
-  (noted : (t : Codes) → Has t after → position (shows_key cols index.versions (versions_in_use index.versions index.committed) (at_columns cols t)) records ≡ None → Has (at_columns cols t) keys) where
+    (one : HasSlotForKey cols index.versions index.committed records) (rising : IsStrictlySortedBy nat_cmp index.free)
+    (enough : length (unknown_keys cols index.versions index.committed records keys) ≤ length index.free)
+    (noted : (t : Codes) → Has t after → position (shows_key cols index.versions (versions_in_use index.versions index.committed) (at_columns cols t)) records ≡ None → Has (at_columns cols t) keys) where
   abbrev versions : List ℕ
   versions = versions_in_use index.versions index.committed
 

@@ -69,7 +69,7 @@ seen_view columns records current next left = record { columns = columns; record
 -- ---- the index after a change
 
 module _ (n phase : ℕ) (v : ViewState) (change : Change) (others : List Change) (slot : ℕ) (two : 2 ≤ n) (h : IsSoundView n phase v) (first : v.left ≡ change ∷ others)
-  (place : slot_for n (phase / 2) v.columns.key (change_key v.columns.key change) v.records ≡ Some slot) where
+    (place : slot_for n (phase / 2) v.columns.key (change_key v.columns.key change) v.records ≡ Some slot) where
   there : slot < length v.records
   there = (slot_fits n phase v change others two h first slot place).0
 

@@ -1,23 +1,20 @@
 -- An index that is built, one that goes on to the next version, and one after a change.
-use Rattle.std.proofs.Common.{◌≡◌, ◌≢◌, ◌⊎◌, inl, inr, ℕ, suc, ◌+◌, ◌*◌, ◌<◌, ◌≤◌, Bool, true, false, cond, List, [], ◌∷◌, ◌++◌, length, Option, Some, None, refl, sym, ap, subst, ◌∙◌, arith}
+use Rattle.std.proofs.Common.{◌≡◌, ◌≢◌, ◌⊎◌, inl, inr, ℕ, suc, ◌*◌, ◌<◌, Bool, true, false, cond, List, [], ◌∷◌, length, refl, sym, ap, subst, ◌∙◌, arith}
 use Rattle.std.specs.Prelude.{set}
 use Rattle.std.specs.List.{AllByRecursion}
 use Rattle.std.specs.Ordering.{nat_cmp}
 use Rattle.std.specs.BTreeMap.{is_at}
-use Rattle.std.specs.Map.{lookup}
-use Rattle.std.specs.Prelude.{nat_eq}
-use lib.Pointwise.{pointwise}
 use Rattle.std.proofs.lemmas.List.{length-set, get_or-set_same, get_or-set_other}
 use Rattle.whips_model.specs.Members.{Has}
 use Rattle.whips_model.specs.Tuples.{Codes}
-use Rattle.whips_model.proofs.Members.{has_first, has_none, has_left, has_right}
+use Rattle.whips_model.proofs.Members.{has_first, has_left, has_right}
 use Rattle.whips_vnl.specs.Records.{visible}
 use Rattle.whips_vnl.specs.declared.record.Vstep.{Vstep}
 use Rattle.whips_store.specs.Versions.{versions_in_use, is_nothing, shows_key, is_older, is_free}
 use Rattle.whips_store.specs.Sound.{IsSlot}
 use Rattle.whips_store_laws.proofs.Slots.{older_below, below_same}
 use Rattle.whips_store_laws.proofs.Changed.{same_place}
-use Rattle.whips_slot_index.specs.Indexes.{IndexData, noted, is_among, slot_at, IsSettled, IsIndex, AreVisited, IsTaken}
+use Rattle.whips_slot_index.specs.Indexes.{IndexData, is_among, slot_at, IsSettled, IsIndex, AreVisited, IsTaken}
 use Rattle.whips_slot_index.proofs.Shown.{at_own, at_is, shown_by, shows, shows_before, free_older, free_nothing, free_next, now_in_use}
 use Rattle.whips_slot_index.proofs.Visits.{quiet_older}
 

@@ -1,11 +1,8 @@
 -- The slots that are sought through an index.
-use Rattle.std.proofs.Common.{◌≡◌, ◌⊎◌, inl, inr, ℕ, zero, suc, ◌+◌, ◌<◌, ◌≤◌, Bool, true, false, cond, List, [], ◌∷◌, ◌++◌, length, map, get_or, take, Option, Some, None, refl, sym, ap, subst, ◌∙◌, arith}
-use Rattle.std.specs.Prelude.{◌↔◌, is_none, nat_eq, nat_lt}
-use Rattle.std.specs.Option.{is_some}
+use Rattle.std.proofs.Common.{◌≡◌, ℕ, zero, suc, ◌+◌, ◌<◌, ◌≤◌, Bool, true, false, cond, List, [], ◌∷◌, length, map, get_or, take, Option, Some, None, refl, sym, ap, subst, ◌∙◌, arith}
+use Rattle.std.specs.Prelude.{◌↔◌}
 use Rattle.std.specs.List.{filter, position, position_or_len}
-use Rattle.std.specs.Ordering.{nat_cmp}
-use Rattle.std.specs.BTreeMap.{is_at}
-use Rattle.std.proofs.lemmas.Bool.{cases_lt, lt-ltb, le-ltb}
+use Rattle.std.proofs.lemmas.Bool.{lt-ltb}
 use Rattle.std.proofs.lemmas.List.{length-map}
 use Rattle.whips_rel.specs.declared.update.Change.{Change}
 use Rattle.std.proofs.lemmas.List.Quantifiers.{position-Some}
@@ -13,7 +10,7 @@ use Rattle.std.proofs.lemmas.List.Sums.{position_or_len_is}
 use Rattle.whips_model.specs.Tuples.{Codes}
 use Rattle.whips_vnl.specs.declared.record.Vstep.{Vstep}
 use Rattle.whips_store.specs.Versions.{versions_in_use, shows_key, is_free}
-use Rattle.whips_slot_index.specs.Indexes.{IndexData, noted, is_among, slot_at, IsIndex, unknown_keys}
+use Rattle.whips_slot_index.specs.Indexes.{IndexData, noted, is_among, slot_at, IsIndex}
 
 module _ (p : List Vstep → Bool) (records : List (List Vstep)) where
   pub place_found : (i : ℕ) → i < length records → p (slot_at records i) ≡ true → ((k : ℕ) → k < i → p (slot_at records k) ≡ false) → Some i ≡ position p records

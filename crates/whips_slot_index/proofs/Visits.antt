@@ -1,5 +1,5 @@
 -- What an index has gained once slots were visited.
-use Rattle.std.proofs.Common.{◌≡◌, ◌⊎◌, inl, inr, ℕ, suc, ◌+◌, ◌*◌, ◌/◌, ◌<◌, ◌≤◌, Bool, true, false, cond, not, List, [], ◌∷◌, ◌++◌, length, get_or, Option, Some, None, refl, sym, ap, subst, ◌∙◌, arith}
+use Rattle.std.proofs.Common.{◌≡◌, ◌⊎◌, inl, inr, ℕ, ◌*◌, ◌<◌, ◌≤◌, Bool, true, false, cond, not, List, [], ◌∷◌, ◌++◌, length, get_or, Option, Some, None, refl, sym, ap, subst, ◌∙◌, arith}
 use Rattle.std.specs.Prelude.{◌&&◌, ◌||◌, nat_eq}
 use Rattle.std.specs.List.{AllByRecursion}
 use Rattle.std.specs.Ordering.{nat_cmp}
@@ -17,7 +17,7 @@ use Rattle.whips_store.specs.Versions.{versions_in_use, is_nothing, shows_key, i
 use Rattle.whips_store.specs.Sound.{IsSlot, HasSlotForKey, HaveWidth}
 use Rattle.whips_store_laws.proofs.Views.{within_older}
 use Rattle.whips_slot_index.specs.Slots.{all_steps, row_among}
-use Rattle.whips_slot_index.specs.Indexes.{IndexData, noted, is_among, slot_at, IsSettled, AreVisited, IsNotedAt, ForgetsAt, IsKeyVisited, IsSlotVisited}
+use Rattle.whips_slot_index.specs.Indexes.{IndexData, noted, is_among, slot_at, IsSettled, AreVisited, IsKeyVisited, IsSlotVisited}
 use Rattle.whips_slot_index.proofs.Found.{steps_at}
 use Rattle.whips_slot_index.proofs.Shown.{at_own, at_is, shows, among_some, shows_none, one_slot, one_key}
 

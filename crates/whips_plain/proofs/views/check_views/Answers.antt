@@ -1,8 +1,7 @@
-use Rattle.std.proofs.Common.{◌≡◌, ◌≢◌, ◌/◌, List, length, map, get_or, Some, None, IfErr, sym, ap, subst, ◌∙◌, arith, rules}
+use Rattle.std.proofs.Common.{◌≡◌, ◌≢◌, ◌/◌, List, length, map, get_or, Some, sym, ap, subst, ◌∙◌, arith, rules}
 use Rattle.std.proofs.Math.ListN.{set}
 use Rattle.std.proofs.lemmas.List.{set-get_or}
 use Rattle.whips_model.proofs.Keyed.{all_at}
-use Rattle.whips_store.specs.declared.error.StoreErr.{StoreErr}
 use Rattle.whips_store.specs.declared.error.StoreErr.TheVariants.{NoMemory}
 use Rattle.whips_store.specs.Stores.{ViewState}
 use Rattle.whips_store.specs.Calls.{AreNetChanges, first_full}

@@ -50,18 +50,22 @@ invariant_of-self c =
     let v : ViewState = seen_view c.self.inside.current.columns c.self.inside.records.items c.self.inside.current.rows (unwrap_or c.self.inside.next c.self.inside.current).rows c.self.inside.left.items in
     let sound : IsSoundView c.args.n c.args.phase v = subst (IsSoundView c.args.n c.args.phase) (sym c.self.view_is) c.requires.sound in
     let left = first_left c.self.inside.left.items c.pop.new.self.items c.in-Some.change c.in-Some.ensures.items in
-    let place = ap (λ (columns : Columns). slot_for c.args.n (c.args.phase / 2) columns.key (change_key columns.key c.in-Some.change) v.records) (sym c.schema.ensures.schema) ∙ ap (λ l. slot_for c.args.n (c.args.phase / 2) c.schema.result.now.key (change_key c.schema.result.now.key c.in-Some.change) (all_steps l)) (sym c.deref.ensures.value) ∙ sym c.slot_of-place.ensures ∙ c.in-Some-place.is in
-    (c.self.invariant.0, λ new is. index_kept c.args.n c.args.phase v c.in-Some.change (reverse c.pop.new.self.items) c.in-Some-place.slot c.requires.least sound left place (all_steps c.change_slot.new.records.items) c.take.result c.index_after.result new c.change_slot.ensures
-    (subst (λ o. ForSome o (IsIndex c.self.inside.current.columns.key (all_steps c.self.inside.records.items))) (sym c.take.ensures.value) c.self.invariant.1) c.index_after.ensures is)
+    let place = ap (λ (columns : Columns). slot_for c.args.n (c.args.phase / 2) columns.key (change_key columns.key c.in-Some.change) v.records) (sym c.schema.ensures.schema) ∙ ap (λ l. slot_for c.args.n (c.args.phase / 2) c.schema.result.now.key (change_key c.schema.result.now.key c.in-Some.change) (all_steps l)) (sym c.deref.ensures.value) ∙ sym c.slot_of-place.ensures ∙ c.in-Some-place.is in (
+      c.self.invariant.0,
+      λ new is. index_kept c.args.n c.args.phase v c.in-Some.change (reverse c.pop.new.self.items) c.in-Some-place.slot c.requires.least sound left place (all_steps c.change_slot.new.records.items) c.take.result c.index_after.result new c.change_slot.ensures
+          (subst (λ o. ForSome o (IsIndex c.self.inside.current.columns.key (all_steps c.self.inside.records.items))) (sym c.take.ensures.value) c.self.invariant.1) c.index_after.ensures is,
+    )
 
 pub invariant_of-self-in-Some-place-2 : goal.invariant_of-self-in-Some-place-2
 invariant_of-self-in-Some-place-2 c =
     let v : ViewState = seen_view c.self.inside.current.columns c.self.inside.records.items c.self.inside.current.rows (unwrap_or c.self.inside.next c.self.inside.current).rows c.self.inside.left.items in
     let sound : IsSoundView c.args.n c.args.phase v = subst (IsSoundView c.args.n c.args.phase) (sym c.self.view_is) c.requires.sound in
     let left = first_left c.self.inside.left.items c.pop.new.self.items c.in-Some.change c.in-Some.ensures.items in
-    let place = ap (λ (columns : Columns). slot_for c.args.n (c.args.phase / 2) columns.key (change_key columns.key c.in-Some.change) v.records) (sym c.schema.ensures.schema) ∙ ap (λ l. slot_for c.args.n (c.args.phase / 2) c.schema.result.now.key (change_key c.schema.result.now.key c.in-Some.change) (all_steps l)) (sym c.deref.ensures.value) ∙ sym c.slot_of-place.ensures ∙ c.in-Some-place.is in
-    (c.self.invariant.0, λ new is. index_kept c.args.n c.args.phase v c.in-Some.change (reverse c.pop.new.self.items) c.in-Some-place.slot c.requires.least sound left place (all_steps c.change_slot.new.records.items) c.take.result c.index_after.result new c.change_slot.ensures
-    (subst (λ o. ForSome o (IsIndex c.self.inside.current.columns.key (all_steps c.self.inside.records.items))) (sym c.take.ensures.value) c.self.invariant.1) c.index_after.ensures is)
+    let place = ap (λ (columns : Columns). slot_for c.args.n (c.args.phase / 2) columns.key (change_key columns.key c.in-Some.change) v.records) (sym c.schema.ensures.schema) ∙ ap (λ l. slot_for c.args.n (c.args.phase / 2) c.schema.result.now.key (change_key c.schema.result.now.key c.in-Some.change) (all_steps l)) (sym c.deref.ensures.value) ∙ sym c.slot_of-place.ensures ∙ c.in-Some-place.is in (
+      c.self.invariant.0,
+      λ new is. index_kept c.args.n c.args.phase v c.in-Some.change (reverse c.pop.new.self.items) c.in-Some-place.slot c.requires.least sound left place (all_steps c.change_slot.new.records.items) c.take.result c.index_after.result new c.change_slot.ensures
+          (subst (λ o. ForSome o (IsIndex c.self.inside.current.columns.key (all_steps c.self.inside.records.items))) (sym c.take.ensures.value) c.self.invariant.1) c.index_after.ensures is,
+    )
 
 pub returns-in-Some-place : goal.returns-in-Some-place
 returns-in-Some-place c =
