@@ -111,16 +111,26 @@ fn answer_all(
     Err(Stop::Refused)
 }
 
+/// The number of asks, the number of partial choices that were found, and the list of a manager of the view that takes all
+/// `n` transactions.
+fn fed(alloc: Global, view: &ViewDef, n: u64) -> Result<(usize, usize, ActionList), Stop>
+    requires { IsOfPairs view.now }
+    ensures { IfOk result (λ r. AreActionsOf view.now r.2.actions) }
+{
+    let mut manager = Manager::new(alloc, 0, view)?;
+    let asks = take_all(alloc, &mut manager, view, n)?;
+    let (found, list) = answer_all(alloc, &mut manager, view, &asks, n)?;
+    Ok((asks.len(), found, list))
+}
+
 /// A run over `n` updates.
 pub fn run(alloc: Global, n: u64) -> Result<Counts, Stop> {
     let view = join(alloc)?;
-    let mut manager = Manager::new(alloc, 0, &view)?;
-    let asks = take_all(alloc, &mut manager, &view, n)?;
-    let (found, list) = answer_all(alloc, &mut manager, &view, &asks, n)?;
+    let (asks, found, list) = fed(alloc, &view, n)?;
     let none = Relation::new(alloc, view.schema().copy()?);
     let rows = apply_to(alloc, &view, &list, none)?;
     Ok(Counts {
-        asks: asks.len(),
+        asks,
         found,
         actions: list.actions.len(),
         rows: rows.len(),
