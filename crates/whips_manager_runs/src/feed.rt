@@ -152,21 +152,72 @@ fn note(
     asked: &mut Vec<(u64, u32, u32)>,
     view: &ViewDef,
     out: &Option<Out>,
-    rows: Rows,
-) -> Result<Rows, NoMemory>
-    requires rows { rows.columns ≡ row_columns view.now }
+    rows: &mut Rows,
+) -> Result<(), NoMemory>
+    requires rows { rows.old.columns ≡ row_columns view.now }
     requires actions { IfSome out.now (λ o. IfSome o.list (λ l. AreActionsOf view.now l.actions)) }
-    ensures { IfOk result (λ r. r.columns ≡ row_columns view.now) }
+    ensures { OnOk result (rows.new.columns ≡ row_columns view.now) }
 {
     let Some(out) = out else {
         text.push_str("refused; ")?;
-        return Ok(rows);
+        return Ok(());
     };
     note_asks(text, asked, &out.asks)?;
-    match &out.list {
-        Some(list) => write_list(alloc, text, view, list, &rows),
-        None => Ok(rows),
+    if let Some(list) = &out.list {
+        *rows = write_list(alloc, text, view, list, rows)?;
     }
+    Ok(())
+}
+
+/// A manager that is told messages, the number of transactions that it was told, what its queries asked, and the rows of
+/// its view.
+#[derive(Drop)]
+struct Fed {
+    manager: Manager,
+    taken: u64,
+    asked: Vec<(u64, u32, u32)>,
+    rows: Rows,
+}
+
+/// A new manager of view 7.
+fn new(alloc: Global, view: &ViewDef) -> Result<Fed, NoMemory>
+    ensures view { IfOk result (λ fed. fed.manager.view ≡ view.now) }
+    ensures last { IfOk result (λ fed. fed.manager.state.last ≤ fed.taken) }
+    ensures taken { IfOk result (λ fed. fed.taken ≡ 0) }
+    ensures rows { IfOk result (λ fed. fed.rows.columns ≡ row_columns view.now) }
+{
+    let schema = view.schema().copy()?;
+    Ok(Fed {
+        manager: Manager::new(alloc, 7, view)?,
+        taken: 0,
+        asked: Vec::new(alloc),
+        rows: Rows::new(alloc, schema),
+    })
+}
+
+/// The manager is told the message, and what leaves is written down in a line.
+fn write_line(
+    alloc: Global,
+    text: &mut String,
+    view: &ViewDef,
+    fed: &mut Fed,
+    message: Message,
+) -> Result<(), NoMemory>
+    requires view { fed.old.manager.view ≡ view.now }
+    requires last { fed.old.manager.state.last ≤ fed.old.taken }
+    requires few { fed.old.taken + 1 < 2 ^ 64 }
+    requires rows { fed.old.rows.columns ≡ row_columns view.now }
+    requires relations { IsOfPairs view.now }
+    ensures view { OnOk result (fed.new.manager.view ≡ view.now) }
+    ensures last { OnOk result (fed.new.manager.state.last ≤ fed.new.taken) }
+    ensures few { OnOk result (fed.new.taken ≤ fed.old.taken + 1) }
+    ensures rows { OnOk result (fed.new.rows.columns ≡ row_columns view.now) }
+{
+    let out = tell(alloc, &mut fed.manager, view, &mut fed.taken, message)?;
+    note(alloc, text, &mut fed.asked, view, &out, &mut fed.rows)?;
+    let open = open_of(&fed.manager, &fed.asked);
+    writeln!(text, "open {open}")?;
+    Ok(())
 }
 
 /// A new manager of view 7 is told these messages, and what leaves it is written down, in one line for each message: each
@@ -175,16 +226,10 @@ fn note(
 pub fn feed(alloc: Global, view: &ViewDef, messages: &[Message]) -> Result<String, NoMemory>
     requires { IsOfPairs view.now }
 {
-    let mut manager = Manager::new(alloc, 7, view)?;
-    let mut taken = 0;
-    let mut rows = Rows::new(alloc, view.schema().copy()?);
-    let mut asked = Vec::new(alloc);
+    let mut fed = new(alloc, view)?;
     let mut text = String::new(alloc);
     for message in messages {
-        let out = tell(alloc, &mut manager, view, &mut taken, *message)?;
-        rows = note(alloc, &mut text, &mut asked, view, &out, rows)?;
-        let open = open_of(&manager, &asked);
-        writeln!(text, "open {open}")?;
+        write_line(alloc, &mut text, view, &mut fed, *message)?;
     }
     Ok(text)
 }
