@@ -1,17 +1,15 @@
 -- What a manager of a view of pairs asks of a transaction, and the number that it has after it.
 use Rattle.std.proofs.Common.{◌≡◌, ℕ, zero, suc, ◌<◌, List, [], ◌∷◌, length, map, refl, sym, subst, ◌∙◌, arith}
 use Rattle.std.specs.Prelude.{slice_index}
+use Rattle.std.proofs.lemmas.List.{length-map}
 use Rattle.whips_model.specs.Tuples.{Codes, Columns}
-use Rattle.whips_model.proofs.Members.{all_has}
 use Rattle.whips_choices.specs.KeyedViews.{KeyedView}
-use Rattle.whips_rel.specs.declared.update.Update.{Update}
-use Rattle.whips_rel.specs.Updates.{tuple_of}
 use Rattle.whips_states.specs.States.{Updates}
 use Rattle.whips_states.specs.Net.{given_at, taken}
 use Rattle.whips_steps.specs.Steps.{numbers_below, asked_sources}
-use Rattle.whips_view.specs.ViewDefs.{View}
+use Rattle.whips_view.specs.ViewDefs.{View, keyed}
 use Rattle.whips_managers.specs.Managers.{ManagerState, with_deletion, with_deletions, with_put, with_query, put_or_asked, with_given, with_all_given, with_transaction}
-use Rattle.whips_strobe.specs.Strobes.{HaveWidths}
+use Rattle.whips_managers.specs.Messages.{widths_of, HaveWidths}
 use Rattle.whips_manager_bench.specs.Pairs.{pair_columns, IsOfPairs, ArePairs}
 
 -- each of two relations of pairs has two columns
@@ -24,8 +22,12 @@ each_wide : (bases : List Columns) → bases ≡ pair_columns ∷ pair_columns �
 each_wide bases e = subst (λ (l : List Columns). (part : ℕ) → part < length l → slice_index (map (λ (c : Columns). length c.kinds) l) part ≡ 2) (sym e) two_wide
 
 -- updates of pairs have the widths of a view of pairs
-pub pairs_wide : (view : View) (t : Updates) → IsOfPairs view → ArePairs t → HaveWidths view t
-pairs_wide view t of are part u lt has relation = all_has (λ (w : Update). length (tuple_of w) ≡ 2) t are u has ∙ sym (each_wide view.bases of part lt)
+pub pairs_wide : (view : View) (t : Updates) → IsOfPairs view → ArePairs t → HaveWidths (keyed view) (widths_of view) t
+pairs_wide view [] of are = tt
+pairs_wide view (u ∷ t) of are = (
+  λ part lt relation. are.0 ∙ sym (each_wide view.bases of part (let same = length-map view.bases (λ (b : Columns). b.key) in omega arith)),
+  pairs_wide view t of are.1,
+)
 
 module _ (v : KeyedView) (columns : Columns) (number : ℕ) where
   last_deleted : (keys : List (ℕ × Codes)) (m : ManagerState) → (with_deletions m keys).last ≡ m.last
