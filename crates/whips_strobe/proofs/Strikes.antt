@@ -109,10 +109,6 @@ module _ (v : KeyedView) (p : Partial) where
 pub last_below : (keys : List (List ℕ)) (pending : List (ℕ × Codes)) (p : Partial) (m n : ℕ) → n ≡ suc m → is_struck_below keys pending p m ≡ false → is_struck_at pending m (slice_index_or keys m []) (slice_index_or p m None) ≡ is_struck_below keys pending p n
 last_below keys pending p m n e earlier = subst (λ k. is_struck_at pending m (slice_index_or keys m []) (slice_index_or p m None) ≡ is_struck_below keys pending p k) (sym e) (sym (ap (λ b. b || is_struck_at pending m (slice_index_or keys m []) (slice_index_or p m None)) earlier))
 
--- the same, where one of those before the last finds a key
-pub found_below : (keys : List (List ℕ)) (pending : List (ℕ × Codes)) (p : Partial) (m n : ℕ) → n ≡ suc m → is_struck_below keys pending p m ≡ true → true ≡ is_struck_below keys pending p n
-found_below keys pending p m n e earlier = subst (λ k. true ≡ is_struck_below keys pending p k) (sym e) (sym (ap (λ b. b || is_struck_at pending m (slice_index_or keys m []) (slice_index_or p m None)) earlier))
-
 -- each choice has a place for each part
 pub whole_at : (n : ℕ) (ps : List Partial) (i : ℕ) (p : Partial) → AllByRecursion (IsWhole n) ps → slice_get ps i ≡ Some p → length p ≡ n
 whole_at n [] i p h e = absurd (cc)
