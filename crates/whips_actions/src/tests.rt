@@ -94,8 +94,8 @@ fn a_key_goes_and_missing_rows_come(rt: HostRuntime) -> Result<(), Fail> {
     let list = list(rt.alloc(), &view, new)?;
     let after = apply(rt.alloc(), &view, &list, &rows)?;
     assert_eq!(rt; after.len(), 2);
-    assert_eq!(rt; after.rows()[0].codes(), [2, 6].as_slice());
-    assert_eq!(rt; after.rows()[1].codes(), [3, 5].as_slice());
+    assert_eq!(rt; after.row(0).codes(), [2, 6].as_slice());
+    assert_eq!(rt; after.row(1).codes(), [3, 5].as_slice());
     let again = apply_to(rt.alloc(), &view, &list, rows)?;
     assert_eq!(rt; again.len(), 2);
     Ok(())

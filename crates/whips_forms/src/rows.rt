@@ -12,7 +12,7 @@ use crate::relation::read_place;
 use crate::{ReadErr, Text};
 use serde_json::Value;
 use std::alloc::Global;
-use whips_rel::{InsertErr, Relation, Tuple, Update};
+use whips_rel::{DeleteErr, InsertErr, Relation, Tuple, Update};
 
 /// The greatest number value.
 const GREATEST: u64 = 999_999_999_999;
@@ -73,7 +73,8 @@ fn delete_row(alloc: Global, relation: &mut Relation, value: &Value) -> Result<T
     let key = read_codes(alloc, value, relation.schema().key().len())?;
     match relation.delete(&key) {
         Ok(row) => Ok(row),
-        Err(_) => Err(ReadErr::Unbuilt),
+        Err(DeleteErr::Absent) => Err(ReadErr::Unbuilt),
+        Err(DeleteErr::NoMemory) => Err(ReadErr::NoMemory),
     }
 }
 

@@ -95,7 +95,7 @@ fn write_actions(text: &mut String, actions: &[Action]) -> Result<(), NoMemory> 
 }
 
 fn write_rows(text: &mut String, rows: &Rows) -> Result<(), NoMemory> {
-    for row in rows.rows() {
+    for row in rows.tuples()?.as_slice() {
         let codes = row.codes();
         write!(text, " {codes:?}")?;
     }

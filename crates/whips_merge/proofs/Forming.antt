@@ -58,7 +58,7 @@ pub record Forming (n k : ℕ) (rows0 rows : List Row) (lists0 lists : List (Lis
   pub formed : (s : MergeState) → s.lists ≡ lists0 → s.cut ≡ cut0 → fold with_transaction s (sets_taken n rows0) ≡ fold with_transaction (record s { lists = lists; cut = cut; transactions = s.transactions ++ transactions }) (sets_taken k rows)
   pub views : length lists ≡ length lists0
 
-same_state : (s : MergeState) (lists : List (List ActionList)) (cut : List ℕ) → s.lists ≡ lists → s.cut ≡ cut → s ≡ record s { lists = lists; cut = cut; transactions = s.transactions ++ [] }
+pub same_state : (s : MergeState) (lists : List (List ActionList)) (cut : List ℕ) → s.lists ≡ lists → s.cut ≡ cut → s ≡ record s { lists = lists; cut = cut; transactions = s.transactions ++ [] }
 same_state s lists cut l c = rw (← l, ← c, append-nil s.transactions) refl
 
 pub forming_begins : (n : ℕ) (rows : List Row) (lists : List (List ActionList)) (cut : List ℕ) → Forming n n rows rows lists lists cut cut [] []
@@ -137,6 +137,19 @@ settled_said rows_of transaction_in s last turns rows0 rows1 rows2 waiting0 wait
     (sym (ap (map rows_of) is ∙ map-append rows_of olds formed))
     (ap (λ t. t ++ map transaction_in formed) ts ∙ sym (ap (map transaction_in) is ∙ map-append transaction_in olds formed))
 
+-- where no row was ready and none was painted, nothing leaves
+pub settled_still : {W : Type 0} (rows_of : W → List Row) (transaction_in : W → Transaction) (s : MergeState) (last : ℕ) (rows0 rows1 : List Row) (waiting0 waiting1 : List (List ℕ)) (lists : List (List ActionList)) (cut : List ℕ) (olds : List W)
+    → s.merge.row_sets ≡ map rows_of olds → s.lists ≡ lists → s.cut ≡ cut → s.transactions ≡ map transaction_in olds
+    → ready_numbers rows0 ≡ None → rows1 ≡ rows0 → rows1 ≡ rows_after_lists last 0 waiting0 rows0 → waiting1 ≡ map (later_lists last) waiting0
+    → with_merge (settled_merge (merge_of last rows0 waiting0 (map rows_of olds))) s ≡ record s { merge = merge_of last rows1 waiting1 (map rows_of olds); lists = lists; cut = cut; transactions = map transaction_in olds }
+settled_still rows_of transaction_in s last rows0 rows1 waiting0 waiting1 lists cut olds sets ls cs ts none same painted later =
+    let n = length rows0 in
+    let still : ready_numbers rows1 ≡ None = ap ready_numbers same ∙ none in
+    settled_said rows_of transaction_in s last n rows0 rows1 rows1 waiting0 waiting1 lists lists cut cut olds [] olds refl sets ls cs ts painted later
+    (sym (none_leave n rows1 still)) (sym (none_taken n rows1 still))
+    (λ z l c. ap (fold with_transaction z) (none_taken n rows1 still) ∙ same_state z lists cut l c)
+    (sym (append-nil olds))
+
 pub forming_step : {W : Type 0} (rows_of : W → List Row) (transaction_in : W → Transaction) (n i : ℕ) (rows0 rows rows1 : List Row) (lists0 lists lists1 : List (List ActionList)) (cut0 cut cut1 : List ℕ) (old new : List W) (w : W) (numbers : List ℕ) (set : List Row)
     → i < n → ready_numbers rows ≡ Some numbers → set ≡ rows_with numbers rows → rows1 ≡ rows_without numbers rows → rows_of w ≡ set → lists1 ≡ lists_left set lists → cut1 ≡ cut_after cut set → transaction_in w ≡ transaction_of set lists cut → new ≡ old ++ w ∷ []
     → Forming n (n - i) rows0 rows lists0 lists cut0 cut (map rows_of old) (map transaction_in old) → Forming n (n - (i + 1)) rows0 rows1 lists0 lists1 cut0 cut1 (map rows_of new) (map transaction_in new)
@@ -144,13 +157,6 @@ forming_step rows_of transaction_in n i rows0 rows rows1 lists0 lists lists1 cut
     let sets : map rows_of new ≡ map rows_of old ++ set ∷ [] = ap (map rows_of) pushed ∙ map-append rows_of old (w ∷ []) ∙ ap (λ r. map rows_of old ++ r ∷ []) same in
     let transactions : map transaction_in new ≡ map transaction_in old ++ transaction_in w ∷ [] = ap (map transaction_in) pushed ∙ map-append transaction_in old (w ∷ []) in
     rw (sets, transactions) (forming_turn n i rows0 rows rows1 lists0 lists lists1 cut0 cut cut1 (map rows_of old) (map transaction_in old) numbers set (transaction_in w) lt e is left ls cs ts f)
-
-module _ {V : Type 0} (items : V → List ℕ) (o : Option V) (looked rows : List Row) (taken : option_map items o ≡ ready_numbers looked) (same : looked ≡ rows) where
-  pub none_ready : o ≡ None → ready_numbers rows ≡ None
-  none_ready is = sym (ap ready_numbers same) ∙ sym taken ∙ ap (option_map items) is
-
-  pub some_ready : (v : V) → o ≡ Some v → ready_numbers rows ≡ Some (items v)
-  some_ready v is = sym (ap ready_numbers same) ∙ sym taken ∙ ap (option_map items) is
 
 -- ---- a list that has come
 

@@ -1,4 +1,4 @@
-pub mod Entries
 pub mod Painting
 pub mod Listing
 pub mod Forming
+pub mod Unready

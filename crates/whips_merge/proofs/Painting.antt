@@ -1,33 +1,17 @@
--- A table without places, beside the rows with their places.
-use Rattle.std.proofs.Common.{◌≡◌, ℕ, zero, suc, ◌+◌, ◌≤◌, ◌<◌, Bool, true, cond, nat_le, List, [], ◌∷◌, ◌++◌, length, map, filter, take, drop, set, get_or, Option, Some, None, refl, sym, ap, ap₂, ◌∙◌, arith, add-one}
+-- Painting a table, and what it hands out.
+use Rattle.std.proofs.Common.{◌≡◌, ℕ, zero, suc, ◌+◌, ◌≤◌, ◌<◌, Bool, true, false, ◌||◌, cond, nat_le, List, [], ◌∷◌, ◌++◌, length, map, filter, take, drop, set, get_or, Option, Some, None, refl, sym, ap, ap₂, ◌∙◌, arith, add-one}
+use Rattle.std.proofs.lemmas.Bool.{false≢true}
 use Rattle.std.proofs.lemmas.List.Elements.{filter-append}
 use Rattle.std.specs.Prelude.{fold}
+use Rattle.std.specs.Option.{option_map}
 use Rattle.std.proofs.Math.Seq.{drop-cons}
 use Rattle.whips_flow.specs.Lists.{changed_at}
-use Rattle.whips_flow.specs.Painted.{Row, painted_rows, rows_without}
+use Rattle.whips_flow.specs.Painted.{Row, painted_rows, rows_with, rows_without}
 use Rattle.whips_flow.specs.Settling.{due_lists, later_lists, rows_after_lists}
-use Rattle.whips_paint.specs.Table.{ViewTable, ready_numbers, rows_left}
-use Rattle.whips_place_laws.specs.Places.{without_places}
-use Rattle.whips_place_laws.proofs.Unread.{places_unread}
+use Rattle.whips_paint.specs.Table.{ViewTable, ready_numbers, ready_rows, rows_left}
 
 abbrev pub with_rows : ViewTable → List Row → ViewTable
 with_rows t rows = record t { table = record (t.table) { rows = rows } }
-
-pub table_painted : (t new : ViewTable) (rows after : List Row) (x j : ℕ) → t.table.rows ≡ without_places rows → after ≡ painted_rows x rows j → new ≡ with_rows t (painted_rows x t.table.rows j) → new ≡ with_rows t (without_places after)
-table_painted t new rows after x j same are is = is ∙ ap (with_rows t) (ap (λ l. painted_rows x l j) same ∙ places_unread.painted x j rows ∙ ap without_places (sym are))
-
-left_without : (o : Option (List ℕ)) (rows : List Row) → rows_left o (without_places rows) ≡ without_places (rows_left o rows)
-left_without None rows = refl
-left_without (Some numbers) rows = places_unread.left numbers rows
-
-pub table_left : (t new : ViewTable) (rows : List Row) → t.table.rows ≡ without_places rows → new ≡ with_rows t (rows_left (ready_numbers t.table.rows) t.table.rows) → new ≡ with_rows t (without_places (rows_left (ready_numbers rows) rows))
-table_left t new rows same is =
-    is ∙ ap (λ l. with_rows t (rows_left (ready_numbers l) l)) same
-    ∙ ap (λ o. with_rows t (rows_left o (without_places rows))) (places_unread.ready rows)
-    ∙ ap (with_rows t) (left_without (ready_numbers rows) rows)
-
-pub numbers_ready : (t : ViewTable) (rows : List Row) → t.table.rows ≡ without_places rows → ready_numbers t.table.rows ≡ ready_numbers rows
-numbers_ready t rows same = ap ready_numbers same ∙ places_unread.ready rows
 
 -- ---- lists whose rows have come
 
@@ -72,8 +56,37 @@ lists_next last i waiting q rows after lt is painted =
     ap (λ n. rows_after_lists last n (drop (i + 1) waiting) after) (add-one i) ∙ ap (rows_after_lists last (suc i) (drop (i + 1) waiting)) painted
     ∙ ap (λ z. rows_after_lists last i (z ∷ drop (i + 1) waiting) rows) is ∙ ap (λ l. rows_after_lists last i l rows) (sym (dropped_next waiting i q lt))
 
--- the table after the rows with these numbers were taken
-pub table_taken : (init t new : ViewTable) (looked rows left : List Row) (numbers : List ℕ) → looked ≡ rows → ready_numbers rows ≡ Some numbers → left ≡ rows_without numbers rows → new ≡ with_rows t (without_places (rows_left (ready_numbers looked) looked)) → t ≡ with_rows init (without_places rows) → new ≡ with_rows init (without_places left)
-table_taken init t new looked rows left numbers same ready is made was =
-    made ∙ ap (λ l. with_rows t (without_places (rows_left (ready_numbers l) l))) same ∙ ap (λ o. with_rows t (without_places (rows_left o rows))) ready
-    ∙ ap (λ l. with_rows t (without_places l)) (sym is) ∙ ap (λ z. with_rows z (without_places left)) was
+-- the rows that a table handed out
+taken_some : (set : List Row) (o : Option (List ℕ)) (rows : List Row) → Some set ≡ option_map (λ ns. rows_with ns rows) o → (ns : List ℕ) × (o ≡ Some ns) × (set ≡ rows_with ns rows)
+taken_some set None rows h = absurd (cc)
+taken_some set (Some ns) rows h = (ns, refl, some set (rows_with ns rows) h)
+  where
+    some : (a b : List Row) → Some a ≡ Some b → a ≡ b
+    some a b h = cc
+
+taken_none : (o : Option (List ℕ)) (rows : List Row) → None ≡ option_map (λ ns. rows_with ns rows) o → o ≡ None
+taken_none None rows h = refl
+taken_none (Some ns) rows h = absurd (cc)
+
+module _ {V : Type 0} (items : V → List Row) (o : Option V) (rows : List Row) (taken : option_map items o ≡ ready_rows rows) where
+  pub none_ready : o ≡ None → ready_numbers rows ≡ None
+  none_ready is = taken_none (ready_numbers rows) rows (sym (ap (option_map items) is) ∙ taken)
+
+  pub some_ready : (v : V) → o ≡ Some v → (ns : List ℕ) × (ready_numbers rows ≡ Some ns) × (items v ≡ rows_with ns rows)
+  some_ready v is = taken_some (items v) (ready_numbers rows) rows (sym (ap (option_map items) is) ∙ taken)
+
+pub left_with : (t new : ViewTable) (numbers : List ℕ) → new ≡ with_rows t (rows_left (ready_numbers t.table.rows) t.table.rows) → ready_numbers t.table.rows ≡ Some numbers → new.table.rows ≡ rows_without numbers t.table.rows
+left_with t new numbers is ready = ap (λ (z : ViewTable). z.table.rows) is ∙ ap (λ o. rows_left o t.table.rows) ready
+
+-- a table that differs from the first one by its rows alone
+pub still_rows : (init t new : ViewTable) (rows : List Row) → t ≡ with_rows init t.table.rows → new ≡ with_rows t rows → new ≡ with_rows init new.table.rows
+still_rows init t new rows was is = is ∙ ap (λ z. with_rows z rows) was ∙ ap (with_rows init) (sym (ap (λ (z : ViewTable). z.table.rows) is))
+
+-- a table from which nothing was taken
+pub stopped_table : (init t new : ViewTable) (out : List Row) → new ≡ with_rows t (rows_left (ready_numbers t.table.rows) t.table.rows) → ready_numbers t.table.rows ≡ None → t ≡ with_rows init t.table.rows → t.table.rows ≡ out → new ≡ with_rows init out
+stopped_table init t new out is none was left = is ∙ ap (λ o. with_rows t (rows_left o t.table.rows)) none ∙ ap (λ z. with_rows z t.table.rows) was ∙ ap (with_rows init) left
+
+pub neither : (a b : Bool) → (a || b) ≡ false → (a ≡ false) × (b ≡ false)
+neither false false h = (refl, refl)
+neither false true h = absurd (false≢true (sym h))
+neither true b h = absurd (false≢true (sym h))

@@ -1,13 +1,13 @@
 -- A merge as its callers see it, and what its calls do.
-use Rattle.std.specs.Prelude.{◌≡◌, ℕ, ◌==◌, Bool, true, false, not, List, [], ◌∷◌, ◌++◌, length, drop, map, filter, fold, replicate, slice_get, Option, Some, None}
+use Rattle.std.specs.Prelude.{◌≡◌, ℕ, Bool, true, false, not, List, [], ◌∷◌, ◌++◌, length, drop, map, filter, fold, replicate, slice_get}
 use Rattle.std.specs.List.{list_any, flat_map}
 use Rattle.whips_flow.specs.Lists.{changed_at, without_front}
-use Rattle.whips_flow.specs.Painted.{Colour, black, white, red, Row}
+use Rattle.whips_flow.specs.Painted.{Row}
 use Rattle.whips_flow.specs.State.{Merge, new_table}
 use Rattle.whips_flow.specs.Settling.{settled_merge}
 use Rattle.whips_flow.specs.Cuts.{cut_after}
 use Rattle.whips_flow.specs.Effects.{with_announced_row, with_waiting_list, without_row_set}
-use Rattle.whips_paint.specs.Table.{new_row}
+use Rattle.whips_paint.specs.Table.{new_row, is_red}
 use Rattle.whips_setup.specs.Setups.{SetupData}
 use Rattle.whips_actions.specs.declared.action.ActionList.{ActionList}
 use Rattle.whips_merge.specs.declared.lists.Transaction.{Transaction}
@@ -36,12 +36,6 @@ new_merge s = record {
 }
 
 -- ---- the transaction of a row set
-
-abbrev pub is_red : ℕ → Option Colour → Bool
-is_red j None = false
-is_red j (Some black) = false
-is_red j (Some white) = false
-is_red j (Some (red k)) = k == j
 
 -- Whether the list was painted in a row: the row's entry for the list's view is red with the list's number. The painting algorithm 1997.
 abbrev pub covers : ActionList → Row → Bool

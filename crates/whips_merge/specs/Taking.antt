@@ -2,7 +2,6 @@
 use Rattle.std.specs.Prelude.{◌≡◌, ℕ, ◌≤◌, length, zero, suc, List, [], ◌∷◌, Some, None}
 use Rattle.whips_flow.specs.Painted.{Row, rows_with, rows_without}
 use Rattle.whips_flow.specs.State.{Merge}
-use Rattle.whips_place_laws.specs.Places.{without_places}
 use Rattle.whips_paint.specs.Table.{ViewTable, ready_numbers}
 use Rattle.whips_actions.specs.declared.action.ActionList.{ActionList}
 
@@ -25,9 +24,9 @@ rows_after_sets (suc n) rows = elim (ready_numbers rows) [
 abbrev pub merge_of : ℕ → List Row → List (List ℕ) → List (List Row) → Merge
 merge_of last rows waiting sets = record { table = record { rows = rows; last_announced = last }; waiting_lists = waiting; row_sets = sets }
 
--- the parts of a merge fit each other: the table has the rows without their places, and there is a queue and a list for each of up to 8 views
-pub record IsWhole (t : ViewTable) (rows : List Row) (waiting : List (List ℕ)) (lists : List (List ActionList)) : Type 0 where
-  pub same : t.table.rows ≡ without_places rows
+-- the parts of a merge fit each other: there is a queue and a list for each of up to 8 views, and no row is ready
+pub record IsWhole (t : ViewTable) (waiting : List (List ℕ)) (lists : List (List ActionList)) : Type 0 where
   pub waiting_views : length waiting ≡ t.views
   pub few : t.views ≤ 8
   pub list_views : length lists ≡ t.views
+  pub unready : ready_numbers t.table.rows ≡ None

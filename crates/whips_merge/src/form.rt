@@ -1,20 +1,19 @@
 //! Row sets become transactions.
-ghost use Rattle.std.specs.Prelude.{◌≡◌, ◌∷◌, [], ◌++◌, ◌<◌, ◌≤◌, cond, not, max, List, length, map, filter, fold, IfOk, OnOk, OnErr};
+ghost use Rattle.std.specs.Prelude.{◌≡◌, ◌∷◌, [], ◌++◌, ◌<◌, ◌≤◌, cond, not, max, None, List, length, map, filter, fold, IfOk, OnOk, OnErr};
 ghost use Rattle.whips_flow.specs.Lists.{changed_at};
 ghost use Rattle.whips_flow.specs.Painted.{Row};
 ghost use Rattle.whips_flow.specs.Cuts.{cut_after};
 ghost use Rattle.whips_flow.specs.Settling.{settled_merge};
-ghost use Rattle.whips_place_laws.specs.Places.{without_places};
+ghost use Rattle.whips_paint.specs.Table.{ready_numbers};
 ghost use Rattle.whips_merge.specs.Taking.{sets_taken, rows_after_sets, merge_of};
 ghost use Rattle.whips_merge.specs.Merging.{MergeState, covers_any, lists_of, lists_left, transaction_of, with_transaction, with_merge};
 
 use crate::lists::{ActionLists, Numbers, Queue, Transaction};
-use crate::paint::{paint_all, take_ready, take_rows};
-use crate::row::{Row, have};
+use crate::paint::{paint_all, take_ready};
 use std::alloc::Global;
 use std::collections::VecDeque;
 use whips_actions::ActionList;
-use whips_paint::Table;
+use whips_paint::{Row, Table};
 use whips_rel::NoMemory;
 use whips_setup::Cut;
 
@@ -41,6 +40,13 @@ fn put(
         left.push(list)?;
     }
     Ok(())
+}
+
+/// Whether the list was painted in one of the rows.
+fn have(rows: &[Row], list: &ActionList) -> bool
+    ensures { result ≡ covers_any rows.now list.now }
+{
+    rows.iter().any(|row| row.is_red(list.view, list.upto))
 }
 
 /// Takes out the lists of a view that were painted in the rows.
@@ -132,36 +138,32 @@ pub(crate) fn form_all(
     alloc: Global,
     turns: usize,
     table: &mut Table,
-    rows: &mut Vec<Row>,
     lists: &mut Vec<ActionLists>,
     cut: &mut Vec<u64>,
 ) -> Result<VecDeque<Waiting>, NoMemory>
-    requires same { table.old.table.rows ≡ without_places rows.old.items }
-    ensures left { OnOk result (rows.new.items ≡ rows_after_sets turns rows.old.items) }
-    ensures table { OnOk result (table.new ≡ record table.old { table = record table.old.table { rows = without_places rows.new.items } }) }
-    ensures sets { IfOk result (λ formed. map (λ w. w.rows.items) formed.items ≡ sets_taken turns rows.old.items) }
+    ensures table { OnOk result (table.new ≡ record table.old { table = record table.old.table { rows = rows_after_sets turns table.old.table.rows } }) }
+    ensures sets { IfOk result (λ formed. map (λ w. w.rows.items) formed.items ≡ sets_taken turns table.old.table.rows) }
     ensures formed { IfOk result (λ formed. (s : MergeState) → s.lists ≡ lists.old.items → s.cut ≡ cut.old.items
-        → fold with_transaction s (sets_taken turns rows.old.items) ≡ record s { lists = lists.new.items; cut = cut.new.items; transactions = s.transactions ++ map (λ w. w.transaction) formed.items }) }
+        → fold with_transaction s (sets_taken turns table.old.table.rows) ≡ record s { lists = lists.new.items; cut = cut.new.items; transactions = s.transactions ++ map (λ w. w.transaction) formed.items }) }
     ensures lists { OnOk result (length lists.new.items ≡ length lists.old.items) }
 {
     let mut formed = VecDeque::new(alloc);
     for turn in 0..turns {
-        let numbers = match take_ready(table, rows)? {
-            Some(numbers) => numbers,
+        let set = match take_ready(table)? {
+            Some(set) => set,
             None => return Ok(formed),
         };
-        let set = take_rows(rows, &numbers)?;
         let waiting = form(alloc, set, lists, cut)?;
         formed.push_back(waiting)?;
     }
     Ok(formed)
 }
 
-/// Paints each list whose rows have come, and makes a transaction of each row set that is ready then.
+/// Paints each list whose rows have come, and makes a transaction of each row set that is ready then. Where no list is
+/// painted, no row is ready, as none was before.
 pub(crate) fn settle(
     alloc: Global,
     table: &mut Table,
-    rows: &mut Vec<Row>,
     waiting: &mut Vec<Queue>,
     lists: &mut Vec<ActionLists>,
     cut: &mut Vec<u64>,
@@ -169,18 +171,21 @@ pub(crate) fn settle(
 ) -> Result<(), NoMemory>
     requires there { length waiting.old.items ≡ table.old.views }
     requires few { table.old.views ≤ 8 }
-    requires same { table.old.table.rows ≡ without_places rows.old.items }
+    requires unready { ready_numbers table.old.table.rows ≡ None }
     ensures settled { OnOk result ((s : MergeState) → s.merge.row_sets ≡ map (λ w. w.rows.items) sets.old.items → s.lists ≡ lists.old.items → s.cut ≡ cut.old.items → s.transactions ≡ map (λ w. w.transaction) sets.old.items
-        → with_merge (settled_merge (merge_of table.old.table.last_announced rows.old.items waiting.old.items (map (λ w. w.rows.items) sets.old.items))) s
-        ≡ record s { merge = merge_of table.old.table.last_announced rows.new.items waiting.new.items (map (λ w. w.rows.items) sets.new.items); lists = lists.new.items; cut = cut.new.items; transactions = map (λ w. w.transaction) sets.new.items }) }
-    ensures table { OnOk result (table.new ≡ record table.old { table = record table.old.table { rows = without_places rows.new.items } }) }
+        → with_merge (settled_merge (merge_of table.old.table.last_announced table.old.table.rows waiting.old.items (map (λ w. w.rows.items) sets.old.items))) s
+        ≡ record s { merge = merge_of table.old.table.last_announced table.new.table.rows waiting.new.items (map (λ w. w.rows.items) sets.new.items); lists = lists.new.items; cut = cut.new.items; transactions = map (λ w. w.transaction) sets.new.items }) }
+    ensures table { OnOk result (table.new ≡ record table.old { table = record table.old.table { rows = table.new.table.rows } }) }
+    ensures unready { OnOk result (ready_numbers table.new.table.rows ≡ None) }
     ensures waiting { OnOk result (length waiting.new.items ≡ length waiting.old.items) }
     ensures lists { OnOk result (length lists.new.items ≡ length lists.old.items) }
     ensures err { OnErr result (sets.new.items ≡ sets.old.items) }
 {
-    let turns = rows.len();
-    paint_all(table, rows, waiting);
-    let mut formed = form_all(alloc, turns, table, rows, lists, cut)?;
+    let turns = table.len();
+    if !paint_all(table, waiting) {
+        return Ok(());
+    }
+    let mut formed = form_all(alloc, turns, table, lists, cut)?;
     sets.append(&mut formed)?;
     Ok(())
 }

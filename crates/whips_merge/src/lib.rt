@@ -5,7 +5,6 @@ mod form;
 mod lists;
 mod merge;
 mod paint;
-mod row;
 #[cfg(test)]
 mod tests;
 

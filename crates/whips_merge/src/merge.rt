@@ -1,14 +1,13 @@
 //! The merge.
-ghost use Rattle.std.specs.Prelude.{◌≡◌, ◌≢◌, ◌<◌, true, [], ◌∷◌, ◌++◌, replicate, nat_lt, length, IfOk, OnOk, OnErr, IsErr};
+ghost use Rattle.std.specs.Prelude.{◌≡◌, ◌≢◌, ◌<◌, true, None, [], ◌∷◌, ◌++◌, replicate, nat_lt, length, IfOk, OnOk, OnErr, IsErr};
 ghost use Rattle.std.specs.List.{All, AllPairs};
 ghost use Rattle.whips_flow.specs.Lists.{front};
 ghost use Rattle.whips_flow.specs.State.{new_table as empty_table};
-ghost use Rattle.whips_place_laws.specs.Places.{without_places};
+ghost use Rattle.whips_paint.specs.Table.{ready_numbers};
 ghost use Rattle.whips_merge.specs.Merging.{new_merge, announced_row, after_rel, after_act, after_next, IsStoppedAfter};
 
 use crate::form::{Waiting, settle};
 use crate::lists::{ActionLists, Queue, Transaction};
-use crate::row::Row;
 use std::alloc::Global;
 use std::collections::VecDeque;
 use std::marker::Model;
@@ -22,7 +21,6 @@ use whips_setup::Setup;
 #[derive(Drop)]
 pub struct Merge {
     table: Table,
-    rows: Vec<Row>,
     waiting: Vec<Queue>,
     lists: Vec<ActionLists>,
     cut: Vec<u64>,
@@ -37,9 +35,9 @@ impl Model for Merge {
 
     ghost Value = { MergeState };
 
-    ghost view = { λ m. record { merge = merge_of m.table.table.last_announced m.rows.items m.waiting.items (map (λ w. w.rows.items) m.sets.items); lists = m.lists.items; cut = m.cut.items; transactions = map (λ w. w.transaction) m.sets.items; is_stopped = m.is_stopped } };
+    ghost view = { λ m. record { merge = merge_of m.table.table.last_announced m.table.table.rows m.waiting.items (map (λ w. w.rows.items) m.sets.items); lists = m.lists.items; cut = m.cut.items; transactions = map (λ w. w.transaction) m.sets.items; is_stopped = m.is_stopped } };
 
-    ghost invariant = { λ m. m.is_stopped ≡ false → IsWhole m.table m.rows.items m.waiting.items m.lists.items };
+    ghost invariant = { λ m. m.is_stopped ≡ false → IsWhole m.table m.waiting.items m.lists.items };
 }
 
 /// A queue for each view, with no number yet.
@@ -74,10 +72,9 @@ fn new_table(alloc: Global, views: u32) -> Result<Table, NoMemory>
     }
 }
 
-/// Takes a transaction into the table and the rows.
+/// Takes a transaction into the table.
 fn add_row(
     table: &mut Table,
-    rows: &mut Vec<Row>,
     number: u64,
     source: u32,
     place: u64,
@@ -85,24 +82,20 @@ fn add_row(
     concerned: &[u32],
 ) -> Result<(), NoMemory>
     requires views { table.old.views ≡ views }
-    requires same { table.old.table.rows ≡ without_places rows.old.items }
+    requires unready { ready_numbers table.old.table.rows ≡ None }
     requires above { table.old.table.last_announced < number }
     requires some { 0 < length concerned.now }
     requires there { All (λ x. x < views) concerned.now }
     requires once { AllPairs (λ x y. x ≢ y) concerned.now }
-    ensures rows { OnOk result (rows.new.items ≡ rows.old.items ++ announced_row views number source place concerned.now ∷ []) }
-    ensures same { OnOk result (table.new.table.rows ≡ without_places rows.new.items) }
+    ensures rows { OnOk result (table.new.table.rows ≡ table.old.table.rows ++ announced_row views number source place concerned.now ∷ []) }
+    ensures unready { OnOk result (ready_numbers table.new.table.rows ≡ None) }
     ensures last { OnOk result (table.new.table.last_announced ≡ number) }
     ensures kept { OnOk result (table.new.views ≡ table.old.views) }
 {
-    let alloc = *rows.allocator();
-    let listed = Vec::from_slice(alloc, concerned)?;
-    let row = Row::new(alloc, number, source, place, views, concerned)?;
-    if table.add_row(number, source, &listed).is_err() {
-        return Err(NoMemory);
+    match table.add_row_at(number, source, place, concerned) {
+        Ok(()) => Ok(()),
+        Err(_) => Err(NoMemory),
     }
-    rows.push(row)?;
-    Ok(())
 }
 
 impl Merge {
@@ -114,7 +107,6 @@ impl Merge {
         let sources = setup.sources();
         Ok(Merge {
             table: new_table(alloc, views)?,
-            rows: Vec::new(alloc),
             waiting: queues(alloc, views)?,
             lists: no_lists(alloc, views)?,
             cut: vec![in alloc; 0u64; sources as usize]?,
@@ -146,21 +138,12 @@ impl Merge {
             return Err(NoMemory);
         }
         self.is_stopped = true;
-        let alloc = *self.rows.allocator();
+        let alloc = *self.waiting.allocator();
         let views = self.lists.len();
-        add_row(
-            &mut self.table,
-            &mut self.rows,
-            number,
-            source,
-            place,
-            views,
-            concerned,
-        )?;
+        add_row(&mut self.table, number, source, place, views, concerned)?;
         settle(
             alloc,
             &mut self.table,
-            &mut self.rows,
             &mut self.waiting,
             &mut self.lists,
             &mut self.cut,
@@ -184,14 +167,13 @@ impl Merge {
             return Err(NoMemory);
         }
         self.is_stopped = true;
-        let alloc = *self.rows.allocator();
+        let alloc = *self.waiting.allocator();
         let view = list.view as usize;
         self.waiting[view].push(list.upto)?;
         self.lists[view].push(list)?;
         settle(
             alloc,
             &mut self.table,
-            &mut self.rows,
             &mut self.waiting,
             &mut self.lists,
             &mut self.cut,

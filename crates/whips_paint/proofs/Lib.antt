@@ -1,4 +1,5 @@
 pub mod Entries
+pub mod Bounding
 pub mod Spreading
 pub mod Ready
 pub mod Tables

@@ -1,13 +1,12 @@
 -- The marked rows are those that aren't ready, or those of a closure.
-use Rattle.std.proofs.Common.{◌≡◌, ℕ, zero, suc, ◌+◌, ◌<◌, ◌≤◌, Bool, true, false, ◌&&◌, List, [], ◌∷◌, ◌++◌, length, Result, Ok, Err, cond, eqb, ltb, Option, Some, None, refl, sym, ap, subst, ◌∙◌, arith, inl, inr, ⊎_elim}
+use Rattle.std.proofs.Common.{◌≡◌, ℕ, zero, suc, ◌+◌, ◌<◌, ◌≤◌, Bool, true, false, ◌&&◌, ◌||◌, List, [], ◌∷◌, ◌++◌, length, Result, Ok, Err, cond, eqb, ltb, Option, Some, None, refl, sym, ap, ap₂, subst, ◌∙◌, arith, inl, inr, ⊎_elim}
 use Rattle.std.specs.Prelude.{slice_get, not, map, replicate, filter, position}
-use Rattle.std.specs.List.{All, AllPairs, AllByRecursion, list_all, zip, find, position_or_len}
+use Rattle.std.specs.List.{AllPairs, AllByRecursion, list_all, zip, find, position_or_len}
 use Rattle.std.specs.Option.{option_map}
 use Rattle.std.proofs.Math.ListN.{set, get_or, take, drop}
-use Rattle.std.proofs.lemmas.Bool.{cases_eq, cases_lt, cases_order, cases_Bool, false≢true, eq-eqb, eqb-true, ne_eqb, ltb-true, lt-ltb, or_left, or_right, or_cases}
+use Rattle.std.proofs.lemmas.Bool.{cases_eq, cases_lt, cases_order, cases_Bool, false≢true, eq-eqb, eqb-true, ne_eqb, ltb-true, lt-ltb, le-ltb, or_left, or_right, or_cases}
 use Rattle.std.proofs.lemmas.Option.{slice_get_within, get_or_from_slice_get, slice_get_past}
 use Rattle.std.proofs.lemmas.List.Folds.{find_at}
-use Rattle.std.proofs.lemmas.List.Elements.{All-map, All-set, All-replicate}
 use Rattle.std.proofs.lemmas.List.{length-map, length-set, length-replicate, get_or-set_same, get_or-map}
 use Rattle.std.proofs.lemmas.List.Kept.{AllPairs-from_increasing, AllPairs-filter}
 use Rattle.std.proofs.lemmas.List.Sorted.{searched}
@@ -21,9 +20,9 @@ use Rattle.whips_closure_laws.specs.Closure.{IsClosed, IsLeastClosed}
 use Rattle.whips_closure_laws.proofs.Grown.{In, all_in, all_from, closure_least}
 use Rattle.whips_paint.specs.declared.marks.Mark.{Mark}
 use Rattle.whips_paint.specs.declared.marks.Mark.TheVariants.{Clear, Found}
-use Rattle.whips_paint.specs.declared.marks.Side.{Side}
-use Rattle.whips_paint.specs.declared.marks.Side.TheVariants.{Needed, Needing}
-use Rattle.whips_paint.specs.Marks.{is_clear, is_done, is_marked, first_mark, number_of_pair, is_marked_pair, IsSpread}
+use Rattle.whips_paint.specs.declared.bounds.Side.{Side}
+use Rattle.whips_paint.specs.declared.bounds.Side.TheVariants.{Needed, Needing}
+use Rattle.whips_paint.specs.Marks.{is_clear, is_marked, first_mark, number_of_pair, is_marked_pair, is_fit_pair, IsSpread}
 
 some_of : {A : Type 0} (a b : A) → Some a ≡ Some b → a ≡ b
 some_of a b h = cc
@@ -77,13 +76,13 @@ both_false false b h = absurd (false≢true (sym h))
 
 module _ (rows : List Row) where
   -- a waiting row of the closure
-  waiting_in : (r : Row) → is_ready rows r ≡ false → (w : Row) × In w rows × (has_number (closure rows r.number) w.number ≡ true) × (is_waiting w ≡ true)
+  pub waiting_in : (r : Row) → is_ready rows r ≡ false → (w : Row) × In w rows × (has_number (closure rows r.number) w.number ≡ true) × (is_waiting w ≡ true)
   waiting_in r h =
       let m = all_false (λ q. not (has_number (closure rows r.number) q.number && is_waiting q)) rows h in
       let both = both_false (has_number (closure rows r.number) m.0.number) (is_waiting m.0) m.2 in
       (m.0, m.1, both.0, both.1)
 
-  not_ready_from : (r w : Row) → In w rows → has_number (closure rows r.number) w.number ≡ true → is_waiting w ≡ true → is_ready rows r ≡ false
+  pub not_ready_from : (r w : Row) → In w rows → has_number (closure rows r.number) w.number ≡ true → is_waiting w ≡ true → is_ready rows r ≡ false
   not_ready_from r w iw h e = false_all (λ q. not (has_number (closure rows r.number) q.number && is_waiting q)) rows w iw (rw (h, e) refl)
 
   closed_needs : (numbers : List ℕ) → IsClosed rows numbers → (r q : Row) → In r rows → In q rows → has_number numbers r.number ≡ true → needs r q ≡ true → has_number numbers q.number ≡ true
@@ -98,7 +97,7 @@ module _ (rows : List Row) where
       let r_in = closed_needs (closure rows q.number) its.closed q r iq ir its.own n in
       not_ready_from q m.0 m.1 (mine.least (closure rows q.number) r_in its.closed m.0.number m.2) m.3
 
-  waiting_not_ready : (r : Row) → In r rows → is_waiting r ≡ true → is_ready rows r ≡ false
+  pub waiting_not_ready : (r : Row) → In r rows → is_waiting r ≡ true → is_ready rows r ≡ false
   waiting_not_ready r ir e = not_ready_from r r ir (closure_least rows r ir).own e
 
 -- ---- the numbers of rows whose mark passes a test
@@ -212,14 +211,6 @@ none_from_position test rows h = go (ltb (position_or_len test rows) (length row
     go true e h = absurd (cc)
     go false e h = find_at test rows ∙ slice_get_past rows (position_or_len test rows) (⊎_elim (λ lt. absurd (false≢true (sym e ∙ lt-ltb (position_or_len test rows) (length rows) lt))) (λ ge. ge) (cases_lt (position_or_len test rows) (length rows)))
 
--- the marks that the search for unready rows begins with
-pub first_fresh : (rows : List Row) → All (λ m. is_done m ≡ false) (map first_mark rows)
-first_fresh rows = All-map (λ m. is_done m ≡ false) first_mark rows (λ k d lt. go (is_waiting (get_or rows k d)))
-  where
-    go : (b : Bool) → is_done (cond b Found Clear) ≡ false
-    go true = refl
-    go false = refl
-
 first_waiting : (rows : List Row) (k : ℕ) (r : Row) → slice_get rows k ≡ Some r → is_marked (map first_mark rows) k ≡ is_waiting r
 first_waiting [] k r h = absurd (cc)
 first_waiting (q ∷ rows) zero r h = go (is_waiting q) ∙ ap is_waiting (some_of q r h)
@@ -287,6 +278,18 @@ pairs_filter p (r ∷ rows) (m ∷ marks) size h = rw (h 0 r refl) (go (p r) (pa
     go true e = ap (λ ns. r.number ∷ ns) e
     go false e = e
 
+-- no marked row waits
+fits : (p : Row → Bool) (rows : List Row) (marks : List Mark) → length marks ≡ length rows → ((k : ℕ) (r : Row) → slice_get rows k ≡ Some r → is_marked marks k ≡ p r) → list_all is_fit_pair (zip rows marks) ≡ list_all (λ q. not (p q && is_waiting q)) rows
+fits p [] marks size h = refl
+fits p (r ∷ rows) [] size h = absurd (omega arith)
+fits p (r ∷ rows) (m ∷ marks) size h = ap₂ (λ a b. a && b) (one m (p r) (is_waiting r) (h 0 r refl)) (fits p rows marks (omega arith) (λ k q hq. h (suc k) q hq))
+  where
+    one : (m : Mark) (a w : Bool) → not (is_clear m) ≡ a → (is_clear m || not w) ≡ not (a && w)
+    one Clear true w e = absurd (false≢true e)
+    one Clear false w e = refl
+    one Found true w e = refl
+    one Found false w e = absurd (false≢true (sym e))
+
 module _ (rows : List Row) (order : AllPairs (λ r q. r.number < q.number) rows) (old marks : List Mark) (size : length old ≡ length rows) (at : ℕ) (row : Row) (here : slice_get rows at ≡ Some row) (s : IsSpread Needed rows old marks) where
   marked_closed : IsClosed rows (numbers_where (λ m. not (is_clear m)) rows marks)
   marked_closed = all_from _ rows (λ r ir h. all_from _ rows (λ q iq n. go r q (get_from_in rows r ir) (get_from_in rows q iq) h n))
@@ -323,35 +326,39 @@ module _ (rows : List Row) (order : AllPairs (λ r q. r.number < q.number) rows)
       go : (p : Row → Bool) × (closure rows row.number ≡ map (λ q. q.number) (filter p rows)) → map number_of_pair (filter is_marked_pair (zip rows marks)) ≡ closure rows row.number
       go (p, e) = pairs_filter p rows marks (s.size ∙ size) (λ k r hr. marked_in_closure first only k r hr ∙ ap (λ ns. has_number ns r.number) e ∙ sym (filter_known p rows order k r hr)) ∙ sym e
 
+  closure_fits : is_marked old at ≡ true → ((k : ℕ) → is_marked old k ≡ true → k ≡ at) → list_all is_fit_pair (zip rows marks) ≡ is_ready rows row
+  closure_fits first only = fits (λ q. has_number (closure rows row.number) q.number) rows marks (s.size ∙ size) (marked_in_closure first only)
+
 -- one mark in a clear list
 none_marked : (n k : ℕ) → is_marked (replicate n Clear) k ≡ false
 none_marked zero k = refl
 none_marked (suc n) zero = refl
 none_marked (suc n) (suc k) = none_marked n k
 
-pub one_fresh : (n at : ℕ) → All (λ m. is_done m ≡ false) (set (replicate n Clear) at Found)
-one_fresh n at = All-set (λ m. is_done m ≡ false) (replicate n Clear) at Found refl (All-replicate (λ m. is_done m ≡ false) n Clear refl)
+module _ (rows : List Row) (marks : List Mark) (at : ℕ) (row : Row) (order : AllPairs (λ r q. r.number < q.number) rows) (here : slice_get rows at ≡ Some row) (s : IsSpread Needed rows (set (replicate (length rows) Clear) at Found) marks) where
+  blank : List Mark
+  blank = replicate (length rows) Clear
 
-pub closure_pairs : (rows : List Row) (marks : List Mark) (at : ℕ) (row : Row) → AllPairs (λ r q. r.number < q.number) rows → slice_get rows at ≡ Some row → IsSpread Needed rows (set (replicate (length rows) Clear) at Found) marks → map number_of_pair (filter is_marked_pair (zip rows marks)) ≡ closure rows row.number
-closure_pairs rows marks at row order here s = closure_marked rows order (set blank at Found) marks size at row here s own only
-  where
-    blank : List Mark
-    blank = replicate (length rows) Clear
+  one_size : length (set (replicate (length rows) Clear) at Found) ≡ length rows
+  one_size = length-set (replicate (length rows) Clear) at Found ∙ length-replicate (length rows) Clear
 
-    size : length (set (replicate (length rows) Clear) at Found) ≡ length rows
-    size = length-set (replicate (length rows) Clear) at Found ∙ length-replicate (length rows) Clear
+  at_within : at < length (replicate (length rows) Clear)
+  at_within = let lt : at < length rows = slice_get_within rows at row here in rw (length-replicate (length rows) Clear) lt
 
-    within : at < length (replicate (length rows) Clear)
-    within = let lt : at < length rows = slice_get_within rows at row here in rw (length-replicate (length rows) Clear) lt
+  own : is_marked (set (replicate (length rows) Clear) at Found) at ≡ true
+  own = ap (λ m. not (is_clear m)) (get_or-set_same (replicate (length rows) Clear) at Found Clear at_within)
 
-    own : is_marked (set (replicate (length rows) Clear) at Found) at ≡ true
-    own = ap (λ m. not (is_clear m)) (get_or-set_same (replicate (length rows) Clear) at Found Clear within)
+  only : (k : ℕ) → is_marked (set (replicate (length rows) Clear) at Found) k ≡ true → k ≡ at
+  only k m = ⊎_elim
+      (λ (e, there). e)
+      (λ (n, there). absurd (false≢true (sym (none_marked (length rows) k) ∙ sym (ap (λ x. not (is_clear x)) there) ∙ m)))
+      (set_cases (replicate (length rows) Clear) at k Found at_within)
 
-    only : (k : ℕ) → is_marked (set (replicate (length rows) Clear) at Found) k ≡ true → k ≡ at
-    only k m = ⊎_elim
-        (λ (e, there). e)
-        (λ (n, there). absurd (false≢true (sym (none_marked (length rows) k) ∙ sym (ap (λ x. not (is_clear x)) there) ∙ m)))
-        (set_cases (replicate (length rows) Clear) at k Found within)
+  pub closure_pairs : map number_of_pair (filter is_marked_pair (zip rows marks)) ≡ closure rows row.number
+  closure_pairs = closure_marked rows order (set (replicate (length rows) Clear) at Found) marks one_size at row here s own only
+
+  pub ready_pairs : list_all is_fit_pair (zip rows marks) ≡ is_ready rows row
+  ready_pairs = closure_fits rows order (set (replicate (length rows) Clear) at Found) marks one_size at row here s own only
 
 -- what a write through a slice leaves of its list
 pub whole_slice : {A : Type 0} (n : ℕ) (xs ys : List A) → length xs ≡ n → take n (xs ++ drop (length xs) ys) ≡ xs
@@ -393,6 +400,71 @@ closure_at rows marks at order lt s = go (slice_get rows at) refl
         there (r ∷ rows) zero lt e = absurd (cc)
         there (r ∷ rows) (suc at) lt e = there rows at (omega arith) e
     go (Some r) e = ap (λ ns. Some ns) (sym (closure_pairs rows marks at r order e s))
+
+pub ready_at : (rows : List Row) (marks : List Mark) (at : ℕ) → AllPairs (λ r q. r.number < q.number) rows → at < length rows → IsSpread Needed rows (set (replicate (length rows) Clear) at Found) marks → option_map (is_ready rows) (slice_get rows at) ≡ Some (list_all is_fit_pair (zip rows marks))
+ready_at rows marks at order lt s = go (slice_get rows at) refl
+  where
+    go : (o : Option Row) → slice_get rows at ≡ o → option_map (is_ready rows) o ≡ Some (list_all is_fit_pair (zip rows marks))
+    go None e = absurd (there rows at lt e)
+      where
+        there : (rows : List Row) (at : ℕ) → at < length rows → slice_get rows at ≡ None → ⊥
+        there [] at lt e = absurd (omega arith)
+        there (r ∷ rows) zero lt e = absurd (cc)
+        there (r ∷ rows) (suc at) lt e = there rows at (omega arith) e
+    go (Some r) e = ap (λ b. Some b) (sym (ready_pairs rows marks at r order e s))
+
+-- ---- the first row that doesn't wait
+
+module _ (p q : Row → Bool) where
+  later : (rows : List Row) → ((r : Row) → In r rows → p r ≡ false → q r ≡ false) → position_or_len p rows ≤ position_or_len q rows
+  later [] h = omega arith
+  later (r ∷ rows) h = elim (p r) as (λ b. p r ≡ b → cond (not b) (1 + position_or_len p rows) 0 ≤ cond (not (q r)) (1 + position_or_len q rows) 0) [
+    | true ↦ λ e. omega arith
+    | false ↦ λ e. rw (h r (inl refl) e) (omega (arith, later rows (λ x i. h x (inr i))))
+  ] refl
+
+  same_first : (rows : List Row) (r : Row) → ((r : Row) → In r rows → p r ≡ false → q r ≡ false) → slice_get rows (position_or_len p rows) ≡ Some r → q r ≡ true → position_or_len q rows ≡ position_or_len p rows
+  same_first [] r h hr qr = refl
+  same_first (x ∷ rows) r h hr qr = elim (p x) as (λ b. p x ≡ b → slice_get (x ∷ rows) (cond (not b) (1 + position_or_len p rows) 0) ≡ Some r → cond (not (q x)) (1 + position_or_len q rows) 0 ≡ cond (not b) (1 + position_or_len p rows) 0) [
+    | true ↦ λ e g. rw (subst (λ z. q z ≡ true) (sym (some_of x r g)) qr) refl
+    | false ↦ λ e g. let next : 1 + position_or_len p rows ≡ suc (position_or_len p rows) = omega arith in rw (h x (inl refl) e) (ap (λ n. 1 + n) (same_first rows r (λ y i. h y (inr i)) (subst (λ k. slice_get (x ∷ rows) k ≡ Some r) next g) qr))
+  ] refl hr
+
+  pub none_later : (rows : List Row) → ((r : Row) → In r rows → p r ≡ false → q r ≡ false) → position p rows ≡ None → position q rows ≡ None
+  none_later rows h none = go (ltb (position_or_len p rows) (length rows)) refl none
+    where
+      go : (b : Bool) → ltb (position_or_len p rows) (length rows) ≡ b → cond b (Some (position_or_len p rows)) None ≡ None → position q rows ≡ None
+      go true e n = absurd (cc)
+      go false e n =
+          let past : length rows ≤ position_or_len p rows = ⊎_elim (λ lt. absurd (false≢true (sym e ∙ lt-ltb (position_or_len p rows) (length rows) lt))) (λ ge. ge) (cases_lt (position_or_len p rows) (length rows)) in
+          let up : position_or_len p rows ≤ position_or_len q rows = later rows h in
+          ap (λ b. cond b (Some (position_or_len q rows)) None) (le-ltb (position_or_len q rows) (length rows) (omega arith))
+
+  pub some_same : (rows : List Row) (k : ℕ) → ((r : Row) → In r rows → p r ≡ false → q r ≡ false) → position p rows ≡ Some k → option_map q (slice_get rows k) ≡ Some true → position q rows ≡ Some k
+  some_same rows k h some passes = go (ltb (position_or_len p rows) (length rows)) refl some
+    where
+      at : (o : Option Row) → slice_get rows k ≡ o → option_map q o ≡ Some true → (r : Row) × (slice_get rows k ≡ Some r) × (q r ≡ true)
+      at None e f = absurd (cc)
+      at (Some r) e f = (r, e, some_true (q r) f)
+        where
+          some_true : (b : Bool) → Some b ≡ Some true → b ≡ true
+          some_true b f = cc
+
+      go : (b : Bool) → ltb (position_or_len p rows) (length rows) ≡ b → cond b (Some (position_or_len p rows)) None ≡ Some k → position q rows ≡ Some k
+      go false e n = absurd (cc)
+      go true e n =
+          let here : position_or_len p rows ≡ k = cc in
+          let f = at (slice_get rows k) refl passes in
+          let same = same_first rows f.0 h (ap (slice_get rows) here ∙ f.1) f.2 in
+          ap (λ n. cond (ltb n (length rows)) (Some n) None) same ∙ some
+
+-- a row that waits isn't ready
+pub waiting_first : (rows : List Row) (r : Row) → In r rows → not (is_waiting r) ≡ false → is_ready rows r ≡ false
+waiting_first rows r i h = waiting_not_ready rows r i (go (is_waiting r) h)
+  where
+    go : (b : Bool) → not b ≡ false → b ≡ true
+    go true h = refl
+    go false h = absurd (false≢true (sym h))
 
 -- the numbers of a closure rise
 filtered_rising : (p : Row → Bool) (rows : List Row) → AllPairs (λ r q. r.number < q.number) rows → IsStrictlyIncreasing (map (λ q. q.number) (filter p rows))

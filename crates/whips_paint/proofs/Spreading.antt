@@ -1,29 +1,22 @@
--- Marks: what one row leads to, and what all marked rows lead to.
-use Rattle.std.proofs.Common.{◌≡◌, ◌≢◌, ℕ, zero, suc, ◌+◌, ◌<◌, ◌≤◌, Bool, true, false, List, [], ◌∷◌, length, cond, ltb, Some, None, refl, sym, ap, subst, ◌∙◌, arith, ◌⊎◌, inl, inr, ⊎_elim}
-use Rattle.std.specs.Prelude.{slice_get, not, position}
-use Rattle.std.specs.List.{All, position_or_len}
+-- Marks: what all marked rows lead to.
+use Rattle.std.proofs.Common.{◌≡◌, ◌≢◌, ℕ, zero, suc, ◌+◌, ◌<◌, ◌≤◌, Bool, true, false, ◌||◌, List, [], ◌∷◌, length, cond, Some, refl, sym, ap, subst, ◌∙◌, arith, ◌⊎◌, inl, inr, ⊎_elim}
+use Rattle.std.specs.Prelude.{slice_get, not}
+use Rattle.std.specs.List.{AllPairs}
 use Rattle.std.proofs.Math.ListN.{set, get_or}
-use Rattle.std.proofs.lemmas.List.{get_or-set_same, get_or-set_other, get_or_past, length-set}
-use Rattle.std.proofs.lemmas.Bool.{cases_eq, cases_lt, cases_Bool, false≢true, lt-ltb}
-use Rattle.std.proofs.lemmas.List.Quantifiers.{position-Some}
-use Rattle.std.proofs.lemmas.List.Sums.{fails_before_first}
-use Rattle.std.proofs.lemmas.Option.{slice_get_within}
+use Rattle.std.proofs.lemmas.List.{get_or-set_same, get_or-set_other, length-set}
+use Rattle.std.proofs.lemmas.Bool.{cases_eq, cases_lt, false≢true}
+use Rattle.std.proofs.lemmas.Option.{slice_get_within, get_or_from_slice_get}
 use Rattle.whips_flow.specs.Painted.{Row}
 use Rattle.whips_paint.specs.declared.marks.Mark.{Mark}
-use Rattle.whips_paint.specs.declared.marks.Mark.TheVariants.{Clear, Found, Done}
-use Rattle.whips_paint.specs.declared.marks.Side.{Side}
-use Rattle.whips_paint.specs.Marks.{leads, is_clear, is_done, is_found, is_marked, IsKept, IsSpread, IsReached}
+use Rattle.whips_paint.specs.declared.marks.Mark.TheVariants.{Clear, Found}
+use Rattle.whips_paint.specs.declared.bounds.Side.{Side}
+use Rattle.whips_paint.specs.declared.bounds.Bound.{Bound}
+use Rattle.whips_paint.specs.Bounds.{leads, draws, is_past, IsNoted}
+use Rattle.whips_paint.proofs.Bounding.{past_undrawn}
+use Rattle.whips_paint.specs.Marks.{is_clear, is_marked, IsKept, IsSpread, IsBounded, IsSpreading, clear_count, IsGrown, IsTold, IsSame}
 
 abbrev pub mark_at : List Mark → ℕ → Mark
 mark_at marks k = get_or marks k Clear
-
-marked_done : (marks : List Mark) (k : ℕ) → is_done (mark_at marks k) ≡ true → is_marked marks k ≡ true
-marked_done marks k h = go (mark_at marks k) h
-  where
-    go : (m : Mark) → is_done m ≡ true → not (is_clear m) ≡ true
-    go Clear h = absurd (false≢true h)
-    go Found h = refl
-    go Done h = refl
 
 -- what a write at place p does to the mark at k
 pub set_cases : (marks : List Mark) (p k : ℕ) (m : Mark) → p < length marks → ((k ≡ p) × (mark_at (set marks p m) k ≡ m)) ⊎ ((k ≢ p) × (mark_at (set marks p m) k ≡ mark_at marks k))
@@ -32,184 +25,187 @@ set_cases marks p k m below = ⊎_elim
     (λ n. inr (n, get_or-set_other marks p k m Clear n))
     (cases_eq k p)
 
-one_row : (rows : List Row) (k p : ℕ) (r q : Row) → slice_get rows p ≡ Some r → slice_get rows k ≡ Some q → k ≡ p → q ≡ r
+pub one_row : (rows : List Row) (k p : ℕ) (r q : Row) → slice_get rows p ≡ Some r → slice_get rows k ≡ Some q → k ≡ p → q ≡ r
 one_row rows k p r q hr hq e = some q r (sym hq ∙ ap (slice_get rows) e ∙ hr)
   where
     some : (a b : Row) → Some a ≡ Some b → a ≡ b
     some a b h = cc
 
--- ---- the rows that one row leads to
+set_marked : (marks : List Mark) (p k : ℕ) → p < length marks → is_marked marks k ≡ true → is_marked (set marks p Found) k ≡ true
+set_marked marks p k below m = ⊎_elim
+    (λ (e, at). ap (λ x. not (is_clear x)) at)
+    (λ (n, at). ap (λ x. not (is_clear x)) at ∙ m)
+    (set_cases marks p k Found below)
 
--- the marks after the first p rows were looked at
-pub record Reaching (side : Side) (r : Row) (rows : List Row) (old now : List Mark) (p : ℕ) : Type 0 where
-  pub size : length now ≡ length old
-  pub done : (k : ℕ) → is_done (get_or now k Clear) ≡ is_done (get_or old k Clear)
-  pub kept : (k : ℕ) → is_marked old k ≡ true → is_marked now k ≡ true
-  pub reached : (k : ℕ) (q : Row) → k < p → slice_get rows k ≡ Some q → leads side r q ≡ true → is_marked now k ≡ true
-  pub only : (k : ℕ) (q : Row) → slice_get rows k ≡ Some q → is_marked now k ≡ true → is_marked old k ≡ false → leads side r q ≡ true
+pub count_set : (marks : List Mark) (p : ℕ) (d : Mark) → p < length marks → is_clear (get_or marks p d) ≡ true → clear_count (set marks p Found) + 1 ≡ clear_count marks
+count_set [] p d below h = absurd (omega arith)
+count_set (m ∷ marks) zero d below h = rw h (omega arith)
+count_set (m ∷ marks) (suc p) d below h = omega (arith, count_set marks p d (omega arith) h)
 
-module _ (side : Side) (r : Row) (rows : List Row) (old : List Mark) where
-  pub reaching_none : Reaching side r rows old old 0
-  reaching_none = record {
-    size = refl;
-    done = λ k. refl;
-    kept = λ k h. h;
-    reached = λ k q h. absurd (omega arith);
-    only = λ k q hq m n. absurd (false≢true (sym n ∙ m));
+module _ (side : Side) (rows : List Row) where
+  -- ---- the bounds of the first marks
+
+  pub bounded_none : (marks : List Mark) → IsBounded side rows marks [] 0
+  bounded_none marks = record {
+    sound = λ q h. absurd (false≢true h);
+    full = λ k r q lt. absurd (omega arith);
   }
 
-  pub reaching_all : (now : List Mark) (p : ℕ) → Reaching side r rows old now p → length rows ≤ p → IsReached side r rows old now
-  reaching_all now p h all = record {
-    size = h.size;
-    done = h.done;
-    kept = h.kept;
-    reached = λ k q hq l. let within : k < length rows = slice_get_within rows k q hq in h.reached k q (omega arith) hq l;
-    only = h.only;
-  }
-
-  pub reaching_skip : (now : List Mark) (p : ℕ) (q : Row) → Reaching side r rows old now p → slice_get rows p ≡ Some q → (is_marked now p ≡ true) ⊎ (leads side r q ≡ false) → Reaching side r rows old now (p + 1)
-  reaching_skip now p q h here skip = record {
-    size = h.size;
-    done = h.done;
-    kept = h.kept;
-    reached = λ k t lt ht l. ⊎_elim
-        (λ e. ⊎_elim
-        (λ m. subst (λ j. is_marked now j ≡ true) (sym e) m)
-        (λ n. absurd (false≢true (sym n ∙ ap (leads side r) (sym (one_row rows k p q t here ht e)) ∙ l)))
-        skip)
-        (λ n. h.reached k t (omega arith) ht l)
+  pub bounded_skip : (marks : List Mark) (bounds : List Bound) (p : ℕ) → IsBounded side rows marks bounds p → is_clear (mark_at marks p) ≡ true → IsBounded side rows marks bounds (p + 1)
+  bounded_skip marks bounds p h clear = record {
+    sound = h.sound;
+    full = λ k r q lt hr m l. ⊎_elim
+        (λ e. absurd (false≢true (sym (ap not (subst (λ j. is_clear (mark_at marks j) ≡ true) (sym e) clear)) ∙ m)))
+        (λ n. h.full k r q (omega arith) hr m l)
         (cases_eq k p);
-    only = h.only;
   }
 
-  pub reaching_mark : (now : List Mark) (p : ℕ) (q : Row) → Reaching side r rows old now p → slice_get rows p ≡ Some q → p < length now → is_clear (mark_at now p) ≡ true → leads side r q ≡ true → Reaching side r rows old (set now p Found) (p + 1)
-  reaching_mark now p q h here below clear led = record {
-    size = length-set now p Found ∙ h.size;
-    done = λ k. ⊎_elim
-        (λ (e, at). ap is_done at ∙ sym (clear_done (mark_at now p) clear) ∙ ap (λ j. is_done (mark_at now j)) (sym e) ∙ h.done k)
-        (λ (n, at). ap is_done at ∙ h.done k)
-        (set_cases now p k Found below);
-    kept = λ k m. ⊎_elim
-        (λ (e, at). ap (λ x. not (is_clear x)) at)
-        (λ (n, at). ap (λ x. not (is_clear x)) at ∙ h.kept k m)
-        (set_cases now p k Found below);
-    reached = λ k t lt ht l. ⊎_elim
-        (λ (e, at). ap (λ x. not (is_clear x)) at)
-        (λ (n, at). ap (λ x. not (is_clear x)) at ∙ h.reached k t (omega arith) ht l)
-        (set_cases now p k Found below);
-    only = λ k t ht m n. ⊎_elim
-        (λ (e, at). ap (leads side r) (one_row rows k p q t here ht e) ∙ led)
-        (λ (ne, at). h.only k t ht (sym (ap (λ x. not (is_clear x)) at) ∙ m) n)
-        (set_cases now p k Found below);
+  pub bounded_more : (marks : List Mark) (bounds new : List Bound) (p : ℕ) (r : Row) → IsBounded side rows marks bounds p → slice_get rows p ≡ Some r → is_clear (mark_at marks p) ≡ false → IsNoted side r bounds new → IsBounded side rows marks new (p + 1)
+  bounded_more marks bounds new p r h here found note = record {
+    sound = λ q d. ⊎_elim (h.sound q) (λ l. record { place = p; row = r; row_is = here; marked = ap not found; led = l }) (note.sound q d);
+    full = λ k t q lt ht m l. ⊎_elim
+        (λ e. note.full q (subst (λ z. leads side z q ≡ true) (one_row rows k p r t here ht e) l))
+        (λ n. note.kept q (h.full k t q (omega arith) ht m l))
+        (cases_eq k p);
   }
-    where
-      clear_done : (m : Mark) → is_clear m ≡ true → is_done m ≡ false
-      clear_done Clear h = refl
-      clear_done Found h = absurd (false≢true h)
-      clear_done Done h = absurd (false≢true h)
 
--- ---- the rows that all marked rows lead to
+  -- ---- the marks
 
--- the marks while some may still be found and not done
-pub record Spreading (side : Side) (rows : List Row) (old now : List Mark) : Type 0 where
-  pub size : length now ≡ length old
-  pub kept : (k : ℕ) → is_marked old k ≡ true → is_marked now k ≡ true
-  pub full : (k l : ℕ) (r q : Row) → slice_get rows k ≡ Some r → slice_get rows l ≡ Some q → is_done (get_or now k Clear) ≡ true → leads side r q ≡ true → is_marked now l ≡ true
-  pub least : (test : Row → Bool) → IsKept side rows test → ((k : ℕ) (r : Row) → slice_get rows k ≡ Some r → is_marked old k ≡ true → test r ≡ true) → (k : ℕ) (r : Row) → slice_get rows k ≡ Some r → is_marked now k ≡ true → test r ≡ true
+  pub spreading_none : (marks : List Mark) (bounds : List Bound) → IsBounded side rows marks bounds (length rows) → IsSpreading side rows marks marks bounds
+  spreading_none marks bounds b = record { size = refl; kept = λ k h. h; least = λ test keeps seeds. seeds; bounded = b }
 
-module _ (side : Side) (rows : List Row) (old : List Mark) where
-  pub spreading_none : All (λ m. is_done m ≡ false) old → Spreading side rows old old
-  spreading_none fresh = record {
-    size = refl;
-    kept = λ k h. h;
-    full = λ k l r q hr hq d led. absurd (false≢true (sym (none k) ∙ d));
-    least = λ test keeps seeds. seeds;
+  -- one more row is marked
+  module _ (old : List Mark) (bounds new : List Bound) (p : ℕ) (r : Row) (here : slice_get rows p ≡ Some r) (size : length old ≡ length rows) (clear : is_clear (mark_at old p) ≡ true) (drawn : draws side bounds r ≡ true) (note : IsNoted side r bounds new) where
+    below : p < length old
+    below = let within : p < length rows = slice_get_within rows p r here in omega arith
+
+    one_more : (first : List Mark) → IsSpreading side rows first old bounds → IsSpreading side rows first (set old p Found) new
+    one_more first h = record {
+      size = length-set old p Found ∙ h.size;
+      kept = λ k m. set_marked old p k below (h.kept k m);
+      least = λ test keeps seeds k s hs m. ⊎_elim
+          (λ (e, at). subst (λ z. test z ≡ true) (sym (one_row rows k p r s here hs e)) (own test keeps seeds))
+          (λ (n, at). h.least test keeps seeds k s hs (sym (ap (λ x. not (is_clear x)) at) ∙ m))
+          (set_cases old p k Found below);
+      bounded = record {
+        sound = λ q d. ⊎_elim
+            (λ w. let l = h.bounded.sound q w in record { place = l.place; row = l.row; row_is = l.row_is; marked = set_marked old p l.place below l.marked; led = l.led })
+            (λ l. record { place = p; row = r; row_is = here; marked = ap (λ x. not (is_clear x)) (get_or-set_same old p Found Clear below); led = l })
+            (note.sound q d);
+        full = λ k s q lt hs m l. ⊎_elim
+            (λ (e, at). note.full q (subst (λ z. leads side z q ≡ true) (one_row rows k p r s here hs e) l))
+            (λ (n, at). note.kept q (h.bounded.full k s q lt hs (sym (ap (λ x. not (is_clear x)) at) ∙ m) l))
+            (set_cases old p k Found below);
+      };
+    }
+      where
+        own : (test : Row → Bool) → IsKept side rows test → ((k : ℕ) (r : Row) → slice_get rows k ≡ Some r → is_marked first k ≡ true → test r ≡ true) → test r ≡ true
+        own test keeps seeds = let l = h.bounded.sound r drawn in keeps l.place p l.row r l.row_is here (h.least test keeps seeds l.place l.row l.row_is l.marked) l.led
+
+    pub grown_one : IsGrown side rows old (set old p Found) bounds new
+    grown_one = record {
+      spreading = one_more;
+      less = let one = count_set old p Clear below clear in omega arith;
+    }
+
+  pub grown_two : (old mid new : List Mark) (a b c : List Bound) → IsGrown side rows old mid a b → IsGrown side rows mid new b c → IsGrown side rows old new a c
+  grown_two old mid new a b c g h = record {
+    spreading = λ first s. h.spreading first (g.spreading first s);
+    less = let x = g.less in let y = h.less in omega arith;
   }
-    where
-      none : (k : ℕ) → is_done (mark_at old k) ≡ false
-      none k = ⊎_elim (λ lt. fresh k Clear lt) (λ ge. ap is_done (get_or_past old k Clear ge)) (cases_lt k (length old))
 
-  -- no mark is found and not done
-  pub spreading_all : (now : List Mark) → Spreading side rows old now → ((k : ℕ) → is_marked now k ≡ true → is_done (mark_at now k) ≡ true) → IsSpread side rows old now
-  spreading_all now h done = record {
+  -- no bound leads to a clear row
+  pub spreading_all : (first now : List Mark) (bounds : List Bound) → IsSpreading side rows first now bounds → ((k : ℕ) → IsTold side rows now bounds k) → IsSpread side rows first now
+  spreading_all first now bounds h told = record {
     size = h.size;
     kept = h.kept;
-    full = λ k l r q hr hq m led. h.full k l r q hr hq (done k m) led;
+    full = λ k l r q hr hq m led. told l q hq (h.bounded.full k r q (slice_get_within rows k r hr) hr m led);
     least = h.least;
   }
 
-  -- the found row p becomes done, and the rows that it leads to are found
-  pub spreading_more : (now next : List Mark) (p : ℕ) (r : Row) → Spreading side rows old now → slice_get rows p ≡ Some r → p < length now → is_marked now p ≡ true → IsReached side r rows (set now p Done) next → Spreading side rows old next
-  spreading_more now next p r h here below found g = record {
-    size = g.size ∙ length-set now p Done ∙ h.size;
-    kept = λ k m. g.kept k (still k (h.kept k m));
-    full = λ k l s q hs hq d led. ⊎_elim
-        (λ (e, at). g.reached l q hq (ap (λ x. leads side x q) (sym (one_row rows k p r s here hs e)) ∙ led))
-        (λ (n, at). g.kept l (still l (h.full k l s q hs hq (sym (ap is_done at) ∙ sym (g.done k) ∙ d) led)))
-        (set_cases now p k Done below);
-    least = λ test keeps seeds k s hs m. ⊎_elim
-        (λ was. h.least test keeps seeds k s hs (before k was))
-        (λ new. keeps p k r s here hs (h.least test keeps seeds p r here found) (g.only k s hs m new))
-        (cases_Bool (is_marked (set now p Done) k));
+  -- ---- one sweep
+
+  pub record Sweeping (old now : List Mark) (a b : List Bound) (turn : ℕ) (grew : Bool) : Type 0 where
+    pub size : length now ≡ length old
+    pub grown : grew ≡ true → IsGrown side rows old now a b
+    pub same : grew ≡ false → IsSame old now a b
+    pub told : grew ≡ false → (k : ℕ) → k < turn → IsTold side rows now b k
+
+  pub sweeping_none : (old : List Mark) (a : List Bound) → Sweeping old old a a 0 false
+  sweeping_none old a = record {
+    size = refl;
+    grown = λ h. absurd (false≢true h);
+    same = λ h. record { marks = refl; bounds = refl };
+    told = λ h k lt. absurd (omega arith);
   }
-    where
-      still : (k : ℕ) → is_marked now k ≡ true → is_marked (set now p Done) k ≡ true
-      still k m = ⊎_elim
-          (λ (e, at). ap (λ x. not (is_clear x)) at)
-          (λ (n, at). ap (λ x. not (is_clear x)) at ∙ m)
-          (set_cases now p k Done below)
 
-      before : (k : ℕ) → is_marked (set now p Done) k ≡ true → is_marked now k ≡ true
-      before k m = ⊎_elim
-          (λ (e, at). subst (λ j. is_marked now j ≡ true) (sym e) found)
-          (λ (n, at). sym (ap (λ x. not (is_clear x)) at) ∙ m)
-          (set_cases now p k Done below)
+  pub sweeping_more : (old now next : List Mark) (a b c : List Bound) (turn : ℕ) (grew here : Bool) → Sweeping old now a b turn grew → turn < length rows → length next ≡ length now
+      → (here ≡ true → IsGrown side rows now next b c) → (here ≡ false → IsSame now next b c) → (here ≡ false → IsTold side rows next c turn) → Sweeping old next a c (turn + 1) (grew || here)
+  sweeping_more old now next a b c turn true true h lt size g s t = record {
+    size = size ∙ h.size;
+    grown = λ e. grown_two old now next a b c (h.grown refl) (g refl);
+    same = λ e. absurd (false≢true (sym e));
+    told = λ e. absurd (false≢true (sym e));
+  }
+  sweeping_more old now next a b c turn true false h lt size g s t = record {
+    size = size ∙ h.size;
+    grown = λ e. subst (λ z. IsGrown side rows old z a c) (sym (s refl).marks) (subst (λ z. IsGrown side rows old now a z) (sym (s refl).bounds) (h.grown refl));
+    same = λ e. absurd (false≢true (sym e));
+    told = λ e. absurd (false≢true (sym e));
+  }
+  sweeping_more old now next a b c turn false true h lt size g s t = record {
+    size = size ∙ h.size;
+    grown = λ e. subst (λ z. IsGrown side rows z next a c) (h.same refl).marks (subst (λ z. IsGrown side rows now next z c) (h.same refl).bounds (g refl));
+    same = λ e. absurd (false≢true (sym e));
+    told = λ e. absurd (false≢true (sym e));
+  }
+  sweeping_more old now next a b c turn false false h lt size g s t = record {
+    size = size ∙ h.size;
+    grown = λ e. absurd (false≢true e);
+    same = λ e. record { marks = (s refl).marks ∙ (h.same refl).marks; bounds = (s refl).bounds ∙ (h.same refl).bounds };
+    told = λ e k past. ⊎_elim
+        (λ at. subst (IsTold side rows next c) (sym at) (t refl))
+        (λ was. subst (λ z. IsTold side rows z c k) (sym (s refl).marks) (subst (λ z. IsTold side rows now z k) (sym (s refl).bounds) (h.told refl k was)))
+        (⊎_elim inl (λ n. inr (omega arith)) (cases_eq k turn));
+  }
 
--- ---- the first found mark
+  pub sweeping_all : (old now : List Mark) (a b : List Bound) (turn : ℕ) (grew : Bool) → Sweeping old now a b turn grew → length rows ≤ turn → grew ≡ false → (k : ℕ) → IsTold side rows now b k
+  sweeping_all old now a b turn grew h all e k q hq = let within : k < length rows = slice_get_within rows k q hq in h.told e k (omega arith) q hq
 
-pub found_at : (marks : List Mark) (p : ℕ) → position is_found marks ≡ Some p → (p < length marks) × (is_marked marks p ≡ true) × (is_done (mark_at marks p) ≡ false)
-found_at marks p h = let f = position-Some is_found marks p Clear h in (f.0, marked (mark_at marks p) f.1, undone (mark_at marks p) f.1)
-  where
-    marked : (m : Mark) → is_found m ≡ true → not (is_clear m) ≡ true
-    marked Clear h = absurd (false≢true h)
-    marked Found h = refl
-    marked Done h = absurd (false≢true h)
+  rising_from : AllPairs (λ r q. r.number < q.number) rows → (p k : ℕ) (r q : Row) → slice_get rows p ≡ Some r → slice_get rows k ≡ Some q → p ≤ k → r.number ≤ q.number
+  rising_from order p k r q hr hq le = ⊎_elim
+      (λ e. let same : r.number ≡ q.number = ap (λ z. z.number) (one_row rows p k q r hq hr e) in omega arith)
+      (λ ne.
+      let h : (get_or rows p r).number < (get_or rows k r).number = order p k r (omega arith) (slice_get_within rows k q hq) in
+      let a : (get_or rows p r).number ≡ r.number = ap (λ z. z.number) (get_or_from_slice_get rows p r r hr) in
+      let b : (get_or rows k r).number ≡ q.number = ap (λ z. z.number) (get_or_from_slice_get rows k q r hq) in
+      omega arith)
+      (cases_eq p k)
 
-    undone : (m : Mark) → is_found m ≡ true → is_done m ≡ false
-    undone Clear h = absurd (false≢true h)
-    undone Found h = refl
-    undone Done h = absurd (false≢true h)
+  -- no bound leads to a row from this one on
+  pub sweeping_past : AllPairs (λ r q. r.number < q.number) rows → (old now : List Mark) (a b : List Bound) (turn : ℕ) (grew : Bool) (r : Row) → Sweeping old now a b turn grew → slice_get rows turn ≡ Some r → is_past side b r.number ≡ true → grew ≡ false → (k : ℕ) → IsTold side rows now b k
+  sweeping_past order old now a b turn grew r h here past e k q hq drawn = ⊎_elim
+      (λ lt. h.told e k lt q hq drawn)
+      (λ ge. absurd (false≢true (sym (past_undrawn side b r.number q past (rising_from order turn k r q here hq ge)) ∙ drawn)))
+      (cases_lt k turn)
 
-pub all_done : (marks : List Mark) → position is_found marks ≡ None → (k : ℕ) → is_marked marks k ≡ true → is_done (mark_at marks k) ≡ true
-all_done marks h k m = ⊎_elim
-    (λ lt. go (mark_at marks k) m (fails_before_first is_found marks k Clear (omega (arith, past))))
-    (λ ge. absurd (false≢true (sym (ap (λ x. not (is_clear x)) (get_or_past marks k Clear ge)) ∙ m)))
-    (cases_lt k (length marks))
-  where
-    past : length marks ≤ position_or_len is_found marks
-    past = ⊎_elim (λ lt. absurd (some_none (lt-ltb (position_or_len is_found marks) (length marks) lt))) (λ ge. ge) (cases_lt (position_or_len is_found marks) (length marks))
-      where
-        some_none : ltb (position_or_len is_found marks) (length marks) ≡ true → ⊥
-        some_none e = let bad : cond true (Some (position_or_len is_found marks)) None ≡ None = subst (λ b. cond b (Some (position_or_len is_found marks)) None ≡ None) e h in cc
+  -- ---- all sweeps
 
-    go : (x : Mark) → not (is_clear x) ≡ true → is_found x ≡ false → is_done x ≡ true
-    go Clear m f = absurd (false≢true m)
-    go Found m f = absurd (false≢true (sym f))
-    go Done m f = refl
+  pub record Swept (first now : List Mark) (bounds : List Bound) (grew : Bool) : Type 0 where
+    pub spreading : IsSpreading side rows first now bounds
+    pub told : grew ≡ false → (k : ℕ) → IsTold side rows now bounds k
 
--- ---- how many rows aren't done
+  pub swept_more : (first now next : List Mark) (b c : List Bound) (grew again : Bool) → Swept first now b grew → (again ≡ true → IsGrown side rows now next b c) → (again ≡ false → IsSame now next b c) → (again ≡ false → (k : ℕ) → IsTold side rows next c k) → Swept first next c again
+  swept_more first now next b c grew true h g s t = record { spreading = (g refl).spreading first h.spreading; told = t }
+  swept_more first now next b c grew false h g s t = record {
+    spreading = subst (λ z. IsSpreading side rows first z c) (sym (s refl).marks) (subst (IsSpreading side rows first now) (sym (s refl).bounds) h.spreading);
+    told = t;
+  }
 
-abbrev pub pending : List Mark → ℕ
-pending [] = 0
-pending (m ∷ marks) = cond (is_done m) 0 1 + pending marks
+-- what is left to do before the last sweep
+abbrev pub left_to_sweep : List Mark → Bool → ℕ
+left_to_sweep marks grew = clear_count marks + cond grew 1 0
 
-pub pending_set : (marks : List Mark) (p : ℕ) (d : Mark) → p < length marks → is_done (get_or marks p d) ≡ false → pending (set marks p Done) + 1 ≡ pending marks
-pending_set [] p d below h = absurd (omega arith)
-pending_set (m ∷ marks) zero d below h = rw h (omega arith)
-pending_set (m ∷ marks) (suc p) d below h = omega (arith, pending_set marks p d (omega arith) h)
-
-pub pending_same : (xs ys : List Mark) → length xs ≡ length ys → ((k : ℕ) → is_done (mark_at xs k) ≡ is_done (mark_at ys k)) → pending xs ≡ pending ys
-pending_same [] [] e h = refl
-pending_same [] (y ∷ ys) e h = absurd (omega arith)
-pending_same (x ∷ xs) [] e h = absurd (omega arith)
-pending_same (x ∷ xs) (y ∷ ys) e h = rw (h 0) (ap (λ n. cond (is_done y) 0 1 + n) (pending_same xs ys (omega arith) (λ k. h (suc k))))
+pub left_less : (side : Side) (rows : List Row) (now next : List Mark) (b c : List Bound) (again : Bool) → (again ≡ true → IsGrown side rows now next b c) → (again ≡ false → IsSame now next b c) → left_to_sweep next again < left_to_sweep now true
+left_less side rows now next b c true g s = let less = (g refl).less in omega arith
+left_less side rows now next b c false g s = subst (λ z. clear_count z + 0 < clear_count now + 1) (sym (s refl).marks) (omega arith)

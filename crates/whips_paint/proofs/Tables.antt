@@ -1,15 +1,15 @@
 -- What each call keeps of a table.
-use Rattle.std.proofs.Common.{◌≡◌, ℕ, zero, suc, ◌<◌, ◌≤◌, Bool, true, false, List, [], ◌∷◌, ◌++◌, length, cond, Some, None, leb, refl, sym, ap, ◌∙◌, arith, take, drop}
+use Rattle.std.proofs.Common.{◌≡◌, ℕ, zero, suc, ◌+◌, ◌<◌, ◌≤◌, Bool, true, false, List, [], ◌∷◌, ◌++◌, length, cond, Some, None, leb, refl, sym, ap, ◌∙◌, arith, take, drop}
 use Rattle.std.specs.Prelude.{map, filter, slice_get, position}
 use Rattle.std.specs.Option.{option_map}
-use Rattle.std.proofs.lemmas.List.{length-map, take_all, drop_all, append-nil}
+use Rattle.std.proofs.lemmas.List.{length-map, take_more, take_all, drop_all, append-nil}
 use Rattle.std.proofs.lemmas.List.Quantifiers.{all_pairs_push}
 use Rattle.std.proofs.lemmas.List.Kept.{AllPairs-filter}
-use Rattle.std.proofs.lemmas.List.Elements.{All-push, All-filter, All-map}
+use Rattle.std.proofs.lemmas.List.Elements.{filter-append, All-push, All-filter, All-map}
 use Rattle.std.proofs.Math.ListN.{get_or}
 use Rattle.whips_flow.specs.Lists.{places_from, changed_at}
-use Rattle.whips_flow.specs.Painted.{Row, with_row, painted_row, painted_rows, reddened_entry, closure, rows_without, is_ready}
-use Rattle.whips_paint.specs.Table.{ViewTable, IsInOrder, new_row, new_entries, ready_numbers, rows_left}
+use Rattle.whips_flow.specs.Painted.{Row, with_row, painted_row, painted_rows, reddened_entry, closure, has_number, rows_with, rows_without, is_ready}
+use Rattle.whips_paint.specs.Table.{ViewTable, IsInOrder, placed_row, new_entries, ready_numbers, ready_rows, rows_left}
 use Rattle.whips_paint.proofs.Entries.{colour_at}
 use Rattle.whips_paint.proofs.Ready.{found_from_position, none_from_position}
 
@@ -27,11 +27,11 @@ length-changed_at (suc i) f (x ∷ xs) = omega (arith, length-changed_at i f xs)
 
 -- ---- a new row
 
-pub order_push : (t : ViewTable) (number source : ℕ) (ks : List ℕ) → IsInOrder t → t.table.last_announced < number → IsInOrder (record { views = t.views; table = with_row (new_row t.views number source ks) t.table })
-order_push t number source ks h above = record {
-  rising = all_pairs_push (λ r q. r.number < q.number) t.table.rows (new_row t.views number source ks) h.rising (λ k d lt. below k d lt);
-  announced = All-push (λ r. r.number ≤ number) t.table.rows (new_row t.views number source ks) (λ k d lt. let low : (get_or t.table.rows k d).number < number = below k d lt in omega arith) (omega arith);
-  wide = All-push (λ r. length r.entries ≡ t.views) t.table.rows (new_row t.views number source ks) h.wide (length-new_entries t.views ks);
+pub order_push : (t : ViewTable) (number source place : ℕ) (ks : List ℕ) → IsInOrder t → t.table.last_announced < number → IsInOrder (record { views = t.views; table = with_row (placed_row t.views number source place ks) t.table })
+order_push t number source place ks h above = record {
+  rising = all_pairs_push (λ r q. r.number < q.number) t.table.rows (placed_row t.views number source place ks) h.rising (λ k d lt. below k d lt);
+  announced = All-push (λ r. r.number ≤ number) t.table.rows (placed_row t.views number source place ks) (λ k d lt. let low : (get_or t.table.rows k d).number < number = below k d lt in omega arith) (omega arith);
+  wide = All-push (λ r. length r.entries ≡ t.views) t.table.rows (placed_row t.views number source place ks) h.wide (length-new_entries t.views ks);
 }
   where
     below : (k : ℕ) (d : Row) → k < length t.table.rows → (get_or t.table.rows k d).number < number
@@ -90,3 +90,17 @@ left_none rows h = ap (λ o. rows_left o rows) h
 
 pub left_some : (rows : List Row) (numbers : List ℕ) → ready_numbers rows ≡ Some numbers → rows_left (ready_numbers rows) rows ≡ rows_without numbers rows
 left_some rows numbers h = ap (λ o. rows_left o rows) h
+
+-- one row more was looked at
+pub rows_with_more : (numbers : List ℕ) (rows copies new : List Row) (i : ℕ) (r : Row) → i < length rows → r ≡ get_or rows i r → copies ≡ rows_with numbers (take i rows) → new ≡ copies ++ cond (has_number numbers r.number) (r ∷ []) [] → new ≡ rows_with numbers (take (i + 1) rows)
+rows_with_more numbers rows copies new i r lt is was more =
+    more ∙ ap (λ l. l ++ cond (has_number numbers r.number) (r ∷ []) []) was
+    ∙ sym (filter-append (λ q. has_number numbers q.number) (take i rows) (r ∷ []))
+    ∙ ap (λ q. rows_with numbers (take i rows ++ q ∷ [])) is
+    ∙ ap (rows_with numbers) (sym (take_more rows i r lt))
+
+pub ready_rows_none : (rows : List Row) → ready_numbers rows ≡ None → ready_rows rows ≡ None
+ready_rows_none rows h = ap (option_map (λ ns. rows_with ns rows)) h
+
+pub ready_rows_some : (rows : List Row) (numbers : List ℕ) → ready_numbers rows ≡ Some numbers → ready_rows rows ≡ Some (rows_with numbers rows)
+ready_rows_some rows numbers h = ap (option_map (λ ns. rows_with ns rows)) h

@@ -1,12 +1,14 @@
 //! The entries of a row, one for each view.
-ghost use Rattle.std.specs.Prelude.{◌≡◌, ◌<◌, Some, IfOk, map};
+ghost use Rattle.std.specs.Prelude.{◌≡◌, ◌<◌, Some, IfOk, map, slice_get};
 ghost use Rattle.std.specs.List.{All, list_any};
 ghost use Rattle.whips_flow.specs.Lists.{changed_at};
-ghost use Rattle.whips_flow.specs.Painted.{is_concerned, is_white, entry_needs, some_entry_needs, reddened_entry};
-ghost use Rattle.whips_paint.specs.Table.{new_entries};
+ghost use Rattle.whips_flow.specs.Painted.{is_concerned, is_white, entry_needs, reddened_entry};
+ghost use Rattle.whips_paint.specs.Table.{new_entries, is_red};
 ghost use Rattle.whips_paint.specs.Entries.{entry_colour};
+ghost use Rattle.whips_paint.specs.Bounds.{view_draws, entry_bound, option_bound};
 
 use crate::NoMemory;
+use crate::bounds::Side;
 use std::alloc::Global;
 
 /// The entry of a row for one view.
@@ -44,6 +46,40 @@ impl Entry {
             Entry::Red(upto) => other <= *upto,
         }
     }
+
+    /// Whether the list of this number covers the row.
+    fn is_red(&self, upto: u64) -> bool
+        ensures { result ≡ is_red upto (Some (entry_colour self.now)) }
+    {
+        match self {
+            Entry::Black | Entry::White => false,
+            Entry::Red(own) => *own == upto,
+        }
+    }
+
+    /// Whether rows up to the bound, or from it on, lead to a row of number `own` with this entry.
+    fn is_drawn(&self, side: Side, own: u64, bound: u64) -> bool
+        ensures { result ≡ view_draws (Some (entry_colour self.now)) side own bound }
+    {
+        match side {
+            Side::Needed => self.is_concerned() && own <= bound,
+            Side::Needing => self.needs(own, bound),
+        }
+    }
+
+    /// How far a row of number `own` with this entry leads.
+    fn bound(&self, side: Side, own: u64) -> Option<u64>
+        ensures { result ≡ entry_bound (entry_colour self.now) side own }
+    {
+        match self {
+            Entry::Black => None,
+            Entry::White => Some(own),
+            Entry::Red(upto) => match side {
+                Side::Needed => Some(*upto),
+                Side::Needing => Some(own),
+            },
+        }
+    }
 }
 
 /// The entries of a new row: white for the concerned views and black for the others.
@@ -79,18 +115,33 @@ pub(crate) fn has_white(entries: &[Entry]) -> bool
     entries.iter().any(|entry| entry.is_white())
 }
 
-/// Whether an entry of the row `own` needs the row `other`, view by view.
-pub(crate) fn some_needs(own: u64, mine: &[Entry], other: u64, its: &[Entry]) -> bool
-    ensures { result ≡ some_entry_needs own (map entry_colour mine.now) other (map entry_colour its.now) }
+/// Whether rows up to the bound in this view, or from it on, lead to a row of number `own` with
+/// these entries.
+pub(crate) fn is_drawn_at(entries: &[Entry], side: Side, own: u64, view: usize, bound: u64) -> bool
+    ensures { result ≡ view_draws (slice_get (map entry_colour entries.now) view) side own bound }
 {
-    match mine {
-        [] => false,
-        [entry, mine @ ..] => match its {
-            [] => false,
-            [its_entry, its @ ..] => {
-                (entry.needs(own, other) && its_entry.is_concerned())
-                    || some_needs(own, mine, other, its)
-            }
-        },
+    match entries.get(view) {
+        Some(entry) => entry.is_drawn(side, own, bound),
+        None => false,
+    }
+}
+
+/// Whether the entry of this view is red with this number.
+pub(crate) fn is_red_at(entries: &[Entry], view: usize, upto: u64) -> bool
+    ensures { result ≡ is_red upto (slice_get (map entry_colour entries.now) view) }
+{
+    match entries.get(view) {
+        Some(entry) => entry.is_red(upto),
+        None => false,
+    }
+}
+
+/// How far a row of number `own` with these entries leads in this view.
+pub(crate) fn bound_at(entries: &[Entry], side: Side, own: u64, view: usize) -> Option<u64>
+    ensures { result ≡ option_bound (slice_get (map entry_colour entries.now) view) side own }
+{
+    match entries.get(view) {
+        Some(entry) => entry.bound(side, own),
+        None => None,
     }
 }

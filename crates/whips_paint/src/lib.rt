@@ -2,6 +2,7 @@
 //! warehouse, and which of them only together.
 #![tactic(auto)]
 
+mod bounds;
 mod closure;
 mod entry;
 mod marks;
@@ -10,4 +11,5 @@ mod row;
 mod table;
 
 pub use memory::NoMemory;
+pub use row::Row;
 pub use table::Table;

@@ -1,19 +1,22 @@
 //! A row of the table: a numbered transaction with an entry for each view.
-ghost use Rattle.std.specs.Prelude.{◌≡◌, ◌<◌, IfOk};
+ghost use Rattle.std.specs.Prelude.{◌≡◌, ◌<◌, length, slice_get, IfOk};
 ghost use Rattle.std.specs.List.{All};
-ghost use Rattle.whips_flow.specs.Painted.{painted_row, is_waiting, needs};
-ghost use Rattle.whips_paint.specs.Table.{new_row};
+ghost use Rattle.whips_flow.specs.Painted.{painted_row, is_waiting};
+ghost use Rattle.whips_paint.specs.Table.{placed_row, is_red};
+ghost use Rattle.whips_paint.specs.Bounds.{bound_draws, row_bound};
 
 use crate::NoMemory;
-use crate::entry::{Entry, entries_of, has_white, redden, some_needs};
+use crate::bounds::{Bound, Side};
+use crate::entry::{Entry, bound_at, entries_of, has_white, is_drawn_at, is_red_at, redden};
 use std::alloc::Global;
 use std::marker::Model;
 
 /// A numbered transaction of a source with one entry per view.
 #[derive(Drop)]
-pub(crate) struct Row {
+pub struct Row {
     number: u64,
     source: u32,
+    place: u64,
     entries: Vec<Entry>,
 }
 
@@ -24,7 +27,7 @@ impl Model for Row {
 
     ghost Value = { PaintedRow };
 
-    ghost view = { λ r. record { number = r.number; source = r.source; place = 0; entries = map entry_colour r.entries.items } };
+    ghost view = { λ r. record { number = r.number; source = r.source; place = r.place; entries = map entry_colour r.entries.items } };
 }
 
 impl Row {
@@ -33,20 +36,23 @@ impl Row {
         alloc: Global,
         number: u64,
         source: u32,
+        place: u64,
         views: u32,
         concerned: &[u32],
     ) -> Result<Row, NoMemory>
         requires { All (λ x. x < views) concerned.now }
-        ensures { IfOk result (λ r. r ≡ new_row views number source concerned.now) }
+        ensures { IfOk result (λ r. r ≡ placed_row views number source place concerned.now) }
     {
         Ok(Row {
             number,
             source,
+            place,
             entries: entries_of(alloc, views, concerned)?,
         })
     }
 
-    pub(crate) fn number(&self) -> u64
+    /// The number of the transaction.
+    pub fn number(&self) -> u64
         ensures { result ≡ self.now.number }
     {
         self.number
@@ -68,11 +74,64 @@ impl Row {
         has_white(&self.entries)
     }
 
-    /// Whether this row can't be applied without the other one.
-    pub(crate) fn needs(&self, other: &Row) -> bool
-        ensures { result ≡ needs self.now other.now }
+    /// The number of views.
+    pub(crate) fn views(&self) -> usize
+        ensures { result ≡ length self.now.entries }
     {
-        some_needs(self.number, &self.entries, other.number, &other.entries)
-            || (self.source == other.source && other.number < self.number)
+        self.entries.len()
+    }
+
+    /// The source.
+    pub fn source(&self) -> u32
+        ensures { result ≡ self.now.source }
+    {
+        self.source
+    }
+
+    /// Which of its source's transactions it is, or 0 where the table wasn't told.
+    pub fn place(&self) -> u64
+        ensures { result ≡ self.now.place }
+    {
+        self.place
+    }
+
+    /// Whether this list of the view covers the row.
+    pub fn is_red(&self, view: u32, upto: u64) -> bool
+        ensures { result ≡ is_red upto (slice_get self.now.entries view) }
+    {
+        is_red_at(&self.entries, view as usize, upto)
+    }
+
+    /// The same row once more.
+    pub(crate) fn copy(&self) -> Result<Row, NoMemory>
+        ensures { IfOk result (λ r. r ≡ self.now) }
+    {
+        Ok(Row {
+            number: self.number,
+            source: self.source,
+            place: self.place,
+            entries: Vec::from_slice(*self.entries.allocator(), &self.entries)?,
+        })
+    }
+
+    /// Whether the bound leads to this row.
+    pub(crate) fn is_drawn(&self, side: Side, bound: Bound) -> bool
+        ensures { result ≡ bound_draws side self.now bound }
+    {
+        match bound {
+            Bound::View(view, number) => {
+                is_drawn_at(&self.entries, side, self.number, view, number)
+            }
+            Bound::Source(source, number) => {
+                source == self.source && side.leads_on(self.number, number)
+            }
+        }
+    }
+
+    /// How far this row leads in the view.
+    pub(crate) fn bound(&self, side: Side, view: usize) -> Option<u64>
+        ensures { result ≡ row_bound side self.now view }
+    {
+        bound_at(&self.entries, side, self.number, view)
     }
 }

@@ -4,10 +4,10 @@ ghost use Rattle.std.specs.List.{All, AllPairs};
 ghost use Rattle.std.specs.Option.{option_map};
 ghost use Rattle.whips_flow.specs.Painted.{with_row, painted_rows};
 ghost use Rattle.whips_flow.specs.State.{new_table};
-ghost use Rattle.whips_paint.specs.Table.{ViewTable, IsInOrder, new_row, ready_numbers, rows_left};
+ghost use Rattle.whips_paint.specs.Table.{ViewTable, IsInOrder, new_row, placed_row, ready_numbers, ready_rows, rows_left};
 
 use crate::NoMemory;
-use crate::closure::{closure_numbers, first_ready, remove_rows};
+use crate::closure::{closure_numbers, copy_rows, first_ready, remove_rows};
 use crate::row::Row;
 use std::alloc::Global;
 use std::marker::Model;
@@ -51,6 +51,13 @@ impl Table {
         self.last_announced
     }
 
+    /// The number of rows.
+    pub fn len(&self) -> usize
+        ensures { result ≡ length self.now.table.rows }
+    {
+        self.rows.len()
+    }
+
     /// Takes a transaction into the table: its entry is white for each concerned view, and black
     /// for the others.
     pub fn add_row(
@@ -66,10 +73,29 @@ impl Table {
         ensures ok { OnOk result (self.new ≡ record self.old { table = with_row (new_row self.old.views number source concerned.now.items) self.old.table }) }
         ensures err { OnErr result (self.new ≡ self.old) }
     {
+        self.add_row_at(number, source, 0, concerned)
+    }
+
+    /// The same for a transaction whose place in its source is known.
+    pub fn add_row_at(
+        &mut self,
+        number: u64,
+        source: u32,
+        place: u64,
+        concerned: &[u32],
+    ) -> Result<(), NoMemory>
+        requires above { self.old.table.last_announced < number }
+        requires some { 0 < length concerned.now }
+        requires there { All (λ x. x < self.old.views) concerned.now }
+        requires once { AllPairs (λ x y. x ≢ y) concerned.now }
+        ensures ok { OnOk result (self.new ≡ record self.old { table = with_row (placed_row self.old.views number source place concerned.now) self.old.table }) }
+        ensures err { OnErr result (self.new ≡ self.old) }
+    {
         let row = Row::new(
             *self.rows.allocator(),
             number,
             source,
+            place,
             self.views,
             concerned,
         )?;
@@ -104,6 +130,22 @@ impl Table {
         let numbers = closure_numbers(alloc, &self.rows, place)?;
         remove_rows(&mut self.rows, &numbers);
         Ok(Some(numbers))
+    }
+
+    /// The same, and answers the rows themselves, with the lists that cover them.
+    pub fn take_ready_rows(&mut self) -> Result<Option<Vec<Row>>, NoMemory>
+        ensures taken { IfOk result (λ taken. option_map (λ v. v.items) taken ≡ ready_rows self.old.table.rows) }
+        ensures left { OnOk result (self.new ≡ record self.old { table = record self.old.table { rows = rows_left (ready_numbers self.old.table.rows) self.old.table.rows } }) }
+        ensures err { OnErr result (self.new ≡ self.old) }
+    {
+        let alloc = *self.rows.allocator();
+        let Some(place) = first_ready(alloc, &self.rows)? else {
+            return Ok(None);
+        };
+        let numbers = closure_numbers(alloc, &self.rows, place)?;
+        let copies = copy_rows(alloc, &self.rows, &numbers)?;
+        remove_rows(&mut self.rows, &numbers);
+        Ok(Some(copies))
     }
 }
 

@@ -162,10 +162,11 @@ fn first_key(store: &Plain) -> Option<u64> {
     if store.views() == 0 {
         return None;
     }
-    match store.current(0).rows() {
-        [] => None,
-        [row, ..] => row.codes().first().copied(),
+    let rows = store.current(0);
+    if rows.len() == 0 {
+        return None;
     }
+    rows.row(0).codes().first().copied()
 }
 
 fn change(store: &mut Plain) {

@@ -20,7 +20,7 @@ fn put(rows: &mut Relation, row: &Tuple) -> Result<(), NoMemory>
 {
     let key = rows.schema().key_of(row)?;
     let copy = row.copy()?;
-    let _replaced = rows.delete(&key);
+    rows.delete_if_there(&key)?;
     match rows.insert(copy) {
         Ok(()) => Ok(()),
         Err(_) => Err(NoMemory),

@@ -44,7 +44,7 @@ fn new_rows_become_the_current_ones(rt: HostRuntime) -> Result<(), Fail> {
     assert_eq!(rt; view.current().len(), 1);
     view.publish();
     let mut codes = 0;
-    for row in view.current().rows() {
+    for row in view.current().tuples()?.as_slice() {
         if row.codes() == [1, 9].as_slice() {
             codes = 9;
         }

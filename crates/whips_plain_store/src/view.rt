@@ -106,7 +106,8 @@ fn count_keys(
 {
     let _sound = after.schema();
     let mut rows = Relation::new(*records.allocator(), schema.copy()?);
-    put_rows(&mut rows, after.rows())?;
+    let news = after.tuples()?;
+    put_rows(&mut rows, news.as_slice())?;
     let (first, count) = versions_used(n, c);
     put_versions(&mut rows, records, n, first, count)?;
     Ok(rows.len())
@@ -163,8 +164,9 @@ impl PlainView {
     {
         let _sound = rows.schema();
         let spare = slots - rows.len();
+        let firsts = rows.tuples()?;
         Ok(PlainView {
-            records: first_slots(alloc, rows.rows(), spare, slots)?,
+            records: first_slots(alloc, firsts.as_slice(), spare, slots)?,
             current: rows,
             next: None,
             left: Vec::new(alloc),

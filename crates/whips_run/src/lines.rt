@@ -70,7 +70,10 @@ fn push_views(
         [name, names @ ..] => match values {
             [] => Ok(()),
             [value, values @ ..] => {
-                push_view(alloc, text, name.as_str(), value.rows())?;
+                let Ok(rows) = value.tuples() else {
+                    return Err(AllocError);
+                };
+                push_view(alloc, text, name.as_str(), rows.as_slice())?;
                 push_views(alloc, text, names, values)
             }
         },

@@ -1,12 +1,13 @@
 //! The checks of a setup's making.
 ghost use Rattle.std.specs.Prelude.{◌≡◌, ◌<◌, ◌≤◌, ◌+◌, ◌^◌, length, nat_lt, slice_get, drop};
 ghost use Rattle.std.specs.List.{list_all};
+ghost use Rattle.whips_rel.specs.Chunks.{joined};
 ghost use Rattle.whips_view.specs.ViewDefs.{is_within};
 ghost use Rattle.whips_view.specs.Refusals.{is_same_kind};
 ghost use Rattle.whips_setup.specs.Limits.{relations_at, have_relations, are_distinct, is_schema, are_same_kinds, are_same_places, are_same_columns, has_numbers_within, is_initial, are_initial, is_source, is_over, are_bases, has_bases, are_sources_within, are_views_within};
 
 use whips_model::Kind;
-use whips_rel::{Relation, Schema, Tuple};
+use whips_rel::{Chunk, Relation, Schema, Tuple};
 use whips_view::ViewDef;
 
 /// The most sources.
@@ -164,6 +165,18 @@ fn have_numbers_within(kinds: &[Kind], rows: &[Tuple]) -> bool
     true
 }
 
+/// Whether the rows of all chunks have no number above the greatest.
+fn all_within(kinds: &[Kind], chunks: &[Chunk]) -> bool
+    ensures { result ≡ list_all (has_numbers_within kinds.now) (joined chunks.now) }
+{
+    match chunks {
+        [] => true,
+        [chunk, chunks @ ..] => {
+            have_numbers_within(kinds, chunk.rows()) && all_within(kinds, chunks)
+        }
+    }
+}
+
 /// Whether the relation is over this schema, and within its limits.
 fn is_initial(schema: &Schema, relation: &Relation) -> bool
     ensures { result ≡ is_initial schema.now relation.now }
@@ -171,7 +184,7 @@ fn is_initial(schema: &Schema, relation: &Relation) -> bool
     is_schema(schema)
         && are_same_columns(relation.schema(), schema)
         && relation.len() <= MAX_ROWS
-        && have_numbers_within(relation.schema().kinds(), relation.rows())
+        && all_within(relation.schema().kinds(), relation.chunks())
 }
 
 /// Whether the relations are over these schemas, one each, and within their limits.

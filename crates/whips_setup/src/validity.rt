@@ -62,7 +62,7 @@ fn delete_row(
     if !is_row(tuple, relation.get(&key)) {
         return Err(BatchErr::Absent(at.source, at.place, at.item));
     }
-    let _ = relation.delete(&key);
+    relation.delete_if_there(&key)?;
     Ok(())
 }
 

@@ -23,7 +23,7 @@ fn delete_row(relation: &mut Relation, tuple: &Tuple) -> Result<(), NoMemory>
     ensures { OnOk result (relation.new ≡ without_row tuple.now relation.old) }
 {
     let key = relation.schema().key_of(tuple)?;
-    let _ = relation.delete(&key);
+    relation.delete_if_there(&key)?;
     Ok(())
 }
 

@@ -6,14 +6,18 @@
 //! tells them apart.
 ghost use Rattle.std.specs.Prelude.{◌≡◌, ◌+◌, ◌%◌, length, IfOk, OnOk};
 ghost use Rattle.whips_store.specs.Stores.{view_in};
+ghost use Rattle.std.specs.List.{list_all};
+ghost use Rattle.whips_changes.specs.Changes.{net_changes};
 ghost use Rattle.whips_store.specs.Calls.{AreNet};
+ghost use Rattle.whips_store_bench.specs.Numbers.{are_within};
+ghost use Rattle.whips_store_bench.specs.Later.{IsLater};
 
-use crate::rows::{are_rows_within, key_at, put, take};
+use crate::rows::{are_rows_within, key_at, put_new, take};
 use crate::start::one;
 use crate::stop::Stop;
 use std::alloc::Global;
-use whips_net::net;
-use whips_rel::Rows;
+use whips_net::Draft;
+use whips_rel::{Change, Rows};
 use whips_store::{Changes, Store};
 
 /// A phase that no run reaches.
@@ -26,67 +30,88 @@ const FIRST_NEW: u64 = 4_096;
 const STRIDE: usize = 1_009;
 
 /// Gives the row at place `i` this code.
-fn replace(alloc: Global, rows: &mut Rows, i: usize, code: u64) -> Result<(), Stop>
-    ensures { rows.new.columns ≡ rows.old.columns }
+fn replace(alloc: Global, draft: &mut Draft, i: usize, code: u64) -> Result<(), Stop>
+    ensures { IsLater draft.old draft.new }
 {
-    if let Some(key) = key_at(rows, i) {
-        take(alloc, rows, key)?;
-        put(alloc, rows, key, code)?;
-    }
-    Ok(())
+    let Some(key) = key_at(draft.rows(), i) else {
+        return Err(Stop::Refused);
+    };
+    take(alloc, draft, key)?;
+    put_new(alloc, draft, key, code)
 }
 
 /// Gives two of the rows behind the first, where there are two, the code of transaction `t`.
-fn replace_two(alloc: Global, rows: &mut Rows, t: u32) -> Result<(), Stop>
-    ensures { rows.new.columns ≡ rows.old.columns }
+fn replace_two(alloc: Global, draft: &mut Draft, t: u32) -> Result<(), Stop>
+    ensures { IsLater draft.old draft.new }
 {
-    if rows.len() < 2 {
+    if draft.rows().len() < 2 {
         return Ok(());
     }
-    let others = rows.len() - 1;
+    let others = draft.rows().len() - 1;
     let code = u64::from(t) + 1;
     let first = (t as usize * STRIDE) % others;
     let second = (first + others / 2) % others;
-    replace(alloc, rows, 1 + first, code)?;
-    replace(alloc, rows, 1 + second, code)
+    replace(alloc, draft, 1 + first, code)?;
+    replace(alloc, draft, 1 + second, code)
 }
 
 /// Takes out the first row.
-fn take_first(alloc: Global, rows: &mut Rows) -> Result<(), Stop>
-    ensures { rows.new.columns ≡ rows.old.columns }
+fn take_first(alloc: Global, draft: &mut Draft) -> Result<(), Stop>
+    ensures { IsLater draft.old draft.new }
 {
-    match key_at(rows, 0) {
-        Some(key) => take(alloc, rows, key),
-        None => Err(Stop::Refused),
-    }
+    let Some(key) = key_at(draft.rows(), 0) else {
+        return Err(Stop::Refused);
+    };
+    take(alloc, draft, key)
 }
 
-/// The rows after transaction `t`.
-#[inline(never)]
-fn rows_after(alloc: Global, before: &Rows, t: u32) -> Result<Rows, Stop>
-    ensures { IfOk result (λ rows. rows.columns ≡ before.now.columns) }
+/// Makes the changes of transaction `t`.
+fn change_rows(alloc: Global, draft: &mut Draft, t: u32) -> Result<(), Stop>
+    ensures { IsLater draft.old draft.new }
 {
-    let mut rows = before.copy()?;
-    replace_two(alloc, &mut rows, t)?;
+    replace_two(alloc, draft, t)?;
     if t % 2 == 0 {
-        take_first(alloc, &mut rows)?;
-    } else {
-        put(alloc, &mut rows, FIRST_NEW + u64::from(t), u64::from(t) + 1)?;
+        return take_first(alloc, draft);
     }
-    Ok(rows)
+    put_new(alloc, draft, FIRST_NEW + u64::from(t), u64::from(t) + 1)
+}
+
+/// The rows after transaction `t`, and the net changes that lead to them.
+#[inline(never)]
+fn rows_after(alloc: Global, before: &Rows, t: u32) -> Result<(Rows, Vec<Change>), Stop>
+    ensures columns { IfOk result (λ p. p.0.columns ≡ before.now.columns) }
+    ensures net { IfOk result (λ p. p.1.items ≡ net_changes before.now.columns.key before.now.rows p.0.rows) }
+{
+    let mut draft = Draft::of(alloc, before)?;
+    change_rows(alloc, &mut draft, t)?;
+    Ok(draft.finish(alloc)?)
+}
+
+/// Whether no number of the rows is above the greatest.
+#[inline(never)]
+fn are_fit(rows: &Rows) -> bool
+    ensures { result ≡ list_all are_within rows.now.rows }
+{
+    are_rows_within(rows)
 }
 
 /// The changes that take the one view of the store to these rows.
 #[inline(never)]
-fn changes_to<S: Store>(alloc: Global, store: &S, after: Rows) -> Result<Changes, Stop>
+fn changes_to<S: Store>(
+    alloc: Global,
+    store: &S,
+    after: Rows,
+    changes: Vec<Change>,
+) -> Result<Changes, Stop>
     requires one { length (S.state store.now).views ≡ 1 }
     requires columns { after.columns ≡ (view_in (S.state store.now) 0).columns }
+    requires net { changes.items ≡ net_changes (view_in (S.state store.now) 0).columns.key (view_in (S.state store.now) 0).current after.rows }
     ensures { IfOk result (λ c. AreNet (S.state store.now).views c) }
 {
-    if !are_rows_within(&after) {
+    if !are_fit(&after) {
         return Err(Stop::Refused);
     }
-    let changes = net(alloc, store.current(0), &after)?;
+    let _current = store.current(0);
     Ok(Changes {
         views: one(alloc, (after, changes))?,
     })
@@ -138,8 +163,8 @@ fn make_one<S: Store>(alloc: Global, store: &mut S, t: u32) -> Result<u64, Stop>
     if store.views() != 1 {
         return Err(Stop::Refused);
     }
-    let after = rows_after(alloc, store.current(0), t)?;
-    let changes = changes_to(alloc, store, after)?;
+    let (after, changes) = rows_after(alloc, store.current(0), t)?;
+    let changes = changes_to(alloc, store, after, changes)?;
     make(store, changes)
 }
 

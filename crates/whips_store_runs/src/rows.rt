@@ -4,7 +4,7 @@ ghost use Rattle.std.specs.List.{list_all};
 ghost use Rattle.whips_store_runs.specs.Numbers.{are_within};
 
 use std::alloc::Global;
-use whips_rel::{InsertErr, Kind, Kinds, NoMemory, Places, Relation, Rows, Schema, Tuple};
+use whips_rel::{Chunk, InsertErr, Kind, Kinds, NoMemory, Places, Relation, Rows, Schema, Tuple};
 
 /// The greatest number of a row.
 const GREATEST: u64 = 999_999_999_999;
@@ -32,7 +32,7 @@ fn put(alloc: Global, rows: &mut Rows, key: u64, code: u64) -> Result<(), NoMemo
 fn set(alloc: Global, rows: &mut Rows, key: u64, code: Option<u64>) -> Result<(), NoMemory>
     ensures { rows.new.columns ≡ rows.old.columns }
 {
-    let _old = rows.delete(&Tuple::from_slice(alloc, &[key])?);
+    rows.delete_if_there(&Tuple::from_slice(alloc, &[key])?)?;
     match code {
         Some(code) => put(alloc, rows, key, code),
         None => Ok(()),
@@ -60,7 +60,24 @@ pub fn pairs(alloc: Global, edits: &[(u64, Option<u64>)]) -> Result<Rows, NoMemo
 pub fn are_rows_within(rows: &Rows) -> bool
     ensures { result ≡ list_all are_within rows.now.rows }
 {
-    rows.rows().iter().all(|row| is_row_within(row))
+    are_chunks_within(rows.chunks())
+}
+
+/// Whether no number of the chunk's rows is above the greatest.
+fn is_chunk_within(chunk: &Chunk) -> bool
+    ensures { result ≡ list_all are_within chunk.now }
+{
+    chunk.rows().iter().all(|row| is_row_within(row))
+}
+
+/// Whether no number of these chunks' rows is above the greatest.
+fn are_chunks_within(chunks: &[Chunk]) -> bool
+    ensures { result ≡ list_all are_within (joined chunks.now) }
+{
+    match chunks {
+        [] => true,
+        [chunk, chunks @ ..] => is_chunk_within(chunk) && are_chunks_within(chunks),
+    }
 }
 
 /// Whether no number of the row is above the greatest.

@@ -113,7 +113,7 @@ impl ViewDef {
         ensures { IfOk result (λ rows. rows ≡ record { columns = row_columns self.now; rows = value_of self.now.parts db.now }) }
     {
         let rows = value_rows(self.alloc(), self.parts(), db.relations())?;
-        Ok(Relation::from_rows(self.schema().copy()?, rows))
+        Relation::from_rows(self.schema().copy()?, rows)
     }
 
     /// The same view again.

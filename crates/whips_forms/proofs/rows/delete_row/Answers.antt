@@ -8,6 +8,6 @@ use Rattle.whips_forms.proofs.rows.delete_row.Goals as goal
 
 pub returns-in-Ok-clause-ok : goal.returns-in-Ok-clause-ok
 returns-in-Ok-clause-ok c =
-    let both = deleted c.args.relation.now.columns c.args.relation.now.rows (view c.args.value.now) c.in_ok-key.key c.in-Ok.row (rw (c.key.ensures, c.schema.ensures.schema) at c.in_ok-key.ensures.ok.0) c.in-Ok.ensures.ok in
+    let both = deleted c.args.relation.now.columns c.args.relation.now.rows (view c.args.value.now) c.in_ok-key.key c.in-Ok.row (rw (c.key.ensures, c.schema.ensures.schema) at c.in_ok-key.ensures.ok.0) c.in-Ok.ensures.row in
     let table = λ (rows : List Codes). let t : Table = record { columns = c.args.relation.now.columns; rows = rows } in t in
-    (both.0, c.delete.ensures.rows ∙ ap table both.1)
+    (both.0, c.in-Ok.ensures.ok ∙ ap table both.1)

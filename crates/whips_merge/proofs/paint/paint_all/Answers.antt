@@ -5,8 +5,7 @@ use Rattle.std.proofs.lemmas.List.Edits.{map_over_more}
 use Rattle.whips_flow.specs.Painted.{painted_rows}
 use Rattle.whips_flow.specs.Settling.{due_lists, later_lists}
 use Rattle.whips_paint.specs.Table.{ViewTable}
-use Rattle.whips_place_laws.specs.Places.{without_places}
-use Rattle.whips_merge.proofs.Painting.{rest_at, lists_next}
+use Rattle.whips_merge.proofs.Painting.{rest_at, lists_next, still_rows, neither}
 use Rattle.whips_merge.proofs.paint.paint_all.Goals as goal
 
 pub overflow_cast-x : goal.overflow_cast-x
@@ -20,8 +19,10 @@ loop-x-preserved c =
     let q = c.index_mut.result.now in
     let same : c.loop-x.table.table.last_announced ≡ last = ap (λ (t : ViewTable). t.table.last_announced) c.loop-x.invariant.table in
     let at : q ≡ get_or c.args.waiting.now.items c.loop-x.x q = c.index_mut.ensures.value ∙ rest_at (later_lists last) c.args.waiting.now.items c.loop-x.waiting.items c.loop-x.x q within c.loop-x.invariant.waiting in
+    let painted : c.paint_view-here.new.table.table.rows ≡ fold (painted_rows c.loop-x.x) c.loop-x.table.table.rows (due_lists last q) = ap (λ (t : ViewTable). t.table.rows) c.paint_view-here.ensures.table ∙ ap (λ n. fold (painted_rows c.loop-x.x) c.loop-x.table.table.rows (due_lists n q)) same in
     record {
-      rows = lists_next last c.loop-x.x c.args.waiting.now.items q c.loop-x.rows.items c.paint_view.new.rows.items within at (c.paint_view.ensures.rows ∙ ap (λ n. fold (painted_rows c.loop-x.x) c.loop-x.rows.items (due_lists n q)) same) ∙ c.loop-x.invariant.rows;
-      waiting = ap (set c.loop-x.waiting.items c.loop-x.x) (c.paint_view.ensures.waiting ∙ ap (λ n. later_lists n q) same) ∙ map_over_more (later_lists last) c.args.waiting.now.items c.loop-x.waiting.items c.loop-x.x q within c.loop-x.invariant.waiting c.index_mut.ensures.value;
-      table = c.paint_view.ensures.table ∙ ap (λ (t : ViewTable). record t { table = record (t.table) { rows = without_places c.paint_view.new.rows.items } }) c.loop-x.invariant.table;
+      rows = lists_next last c.loop-x.x c.args.waiting.now.items q c.loop-x.table.table.rows c.paint_view-here.new.table.table.rows within at painted ∙ c.loop-x.invariant.rows;
+      waiting = ap (set c.loop-x.waiting.items c.loop-x.x) (c.paint_view-here.ensures.waiting ∙ ap (λ n. later_lists n q) same) ∙ map_over_more (later_lists last) c.args.waiting.now.items c.loop-x.waiting.items c.loop-x.x q within c.loop-x.invariant.waiting c.index_mut.ensures.value;
+      table = still_rows c.args.table.now c.loop-x.table c.paint_view-here.new.table _ c.loop-x.invariant.table c.paint_view-here.ensures.table;
+      painted = λ e. let both = neither c.loop-x.is_painted c.paint_view-here.result e in c.paint_view-here.ensures.none both.1 ∙ c.loop-x.invariant.painted both.0;
     }

@@ -1,21 +1,15 @@
-use Rattle.std.proofs.Common.{◌≡◌, false, ◌∙◌, sym, ap, subst, List}
-use Rattle.std.specs.Prelude.{position}
-use Rattle.std.specs.List.{All}
-use Rattle.whips_paint.specs.Marks.{IsSpread, is_clear, is_done}
-use Rattle.whips_paint.specs.declared.marks.Mark.{Mark}
-use Rattle.whips_paint.specs.declared.marks.Side.TheVariants.{Needing}
-use Rattle.whips_paint.proofs.Ready.{first_fresh, first_ready_place, whole_slice}
+use Rattle.std.proofs.Common.{◌∙◌, Some, sym, ap}
+use Rattle.std.specs.Prelude.{not}
+use Rattle.whips_flow.specs.Painted.{is_ready, is_waiting}
+use Rattle.whips_paint.proofs.Ready.{none_later, some_same, waiting_first}
 use Rattle.whips_paint.proofs.closure.first_ready.Goals as goal
 
-pub spread-requires-clause-fresh : goal.spread-requires-clause-fresh
-spread-requires-clause-fresh c =
-    let marks : List Mark = c.deref_mut.result.now in
-    subst (All (λ m. is_done m ≡ false)) (sym (c.deref_mut.ensures.value ∙ c.in_ok-marks.ensures)) (first_fresh c.args.rows.now)
+pub returns-in_default : goal.returns-in_default
+returns-in_default c =
+    let rows = c.args.rows.now in
+    sym (none_later (λ r. not (is_waiting r)) (is_ready rows) rows (waiting_first rows) (sym c.first_done.ensures ∙ c.in_default.is))
 
-pub returns : goal.returns
-returns c =
-    let began = c.deref_mut.ensures.value ∙ c.in_ok-marks.ensures in
-    let spread = subst (λ old. IsSpread Needing c.args.rows.now old c.spread.new.marks) began c.spread.ensures in
-    c.first_clear.ensures
-    ∙ ap (position is_clear) (c.deref.ensures.value ∙ whole_slice _ c.spread.new.marks _ (c.spread.ensures.size ∙ c.deref_mut.ensures.len))
-    ∙ first_ready_place c.args.rows.now c.spread.new.marks c.requires spread
+pub returns-then-branch : goal.returns-then-branch
+returns-then-branch c =
+    let rows = c.args.rows.now in
+    sym (some_same (λ r. not (is_waiting r)) (is_ready rows) rows c.in-Some.place (waiting_first rows) (sym c.first_done.ensures ∙ c.in-Some.is) (c.in_ok-is_ready_at.ensures ∙ ap (λ b. Some b) c.if-branch.true))

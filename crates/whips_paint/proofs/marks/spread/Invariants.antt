@@ -1,8 +1,12 @@
-use Rattle.whips_paint.proofs.Spreading.{Spreading, pending}
+use Rattle.std.proofs.Common.{◌≡◌, length}
+use Rattle.whips_paint.proofs.Spreading.{Swept, left_to_sweep}
 use Rattle.whips_paint.proofs.marks.spread.Given as goal
 
-abbrev pub invariant-loop-place : goal.invariant-loop-place
-invariant-loop-place l = Spreading l.side l.rows l.initial.marks l.marks
+abbrev pub invariant-loop-grew : goal.invariant-loop-grew
+invariant-loop-grew l = record {
+  size : length l.marks ≡ length l.initial.marks;
+  swept : Swept l.side l.rows l.initial.marks l.marks l.bounds.items l.grew;
+}
 
-abbrev pub decreases-loop-place : goal.decreases-loop-place
-decreases-loop-place l = pending l.marks
+abbrev pub decreases-loop-grew : goal.decreases-loop-grew
+decreases-loop-grew l = left_to_sweep l.marks l.grew

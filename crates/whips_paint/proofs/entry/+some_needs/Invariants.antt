@@ -1,5 +1,0 @@
-use Rattle.std.proofs.Common.{length}
-use Rattle.whips_paint.proofs.entry.+some_needs.Given as goal
-
-abbrev pub decreases-some_needs : goal.decreases-some_needs
-decreases-some_needs l = length l.mine.now
