@@ -10,7 +10,7 @@ use Rattle.whips_choices.specs.KeyedViews.{KeyedView}
 use Rattle.whips_states.specs.Net.{by_part}
 use Rattle.whips_steps.specs.Steps.{numbers_below, asked_sources}
 use Rattle.whips_managers.specs.Managers.{Query, ManagerState, with_given, with_put, with_query, with_all_given, put_or_asked, with_pending, with_deletion, with_deletions}
-use Rattle.whips_queries.specs.Names.{IsNamedBelow}
+use Rattle.whips_open_queries.specs.Names.{IsNamedBelow}
 use Rattle.whips_strobe.specs.Parts.{tuples_at}
 
 -- ---- names
