@@ -2,6 +2,7 @@
 //! list covers, from 1 up to all. A merge of two views is told of all transactions before the first list comes, and the line
 //! that the program writes counts what the merge handed out.
 #![tactic(auto)]
+ghost use Rattle.std.specs.Prelude.{◌≤◌, IfSome};
 
 mod data;
 mod run;
@@ -44,7 +45,9 @@ fn main(rt: HostRuntime) -> ExitCode {
 }
 
 /// The two numbers that the words are. Words that aren't all text are no numbers.
-fn numbers<R: Env + AllocGlobal>(rt: &R) -> Option<(u64, u64)> {
+fn numbers<R: Env + AllocGlobal>(rt: &R) -> Option<(u64, u64)>
+    ensures { IfSome result (λ n. (n.0 ≤ MOST) × (1 ≤ n.1)) }
+{
     let mut words = env::args(rt).ok()?.skip(1);
     let transactions = number(words.next()?.as_str(), MOST)?;
     let covered = number(words.next()?.as_str(), transactions)?;
@@ -55,6 +58,13 @@ fn numbers<R: Env + AllocGlobal>(rt: &R) -> Option<(u64, u64)> {
 }
 
 /// The number that the word is, where it is from 1 to `most`.
-fn number(word: &str, most: u64) -> Option<u64> {
-    word.parse().ok().filter(|n| 1 <= *n && *n <= most)
+fn number(word: &str, most: u64) -> Option<u64>
+    ensures { IfSome result (λ n. (1 ≤ n) × (n ≤ most)) }
+{
+    let number = word.parse().ok()?;
+    if 1 <= number && number <= most {
+        Some(number)
+    } else {
+        None
+    }
 }

@@ -1,5 +1,5 @@
 //! A run of a merge to which all transactions are announced before the first list comes.
-ghost use Rattle.std.specs.Prelude.{◌≡◌, ◌<◌, ◌^◌, length, IfOk, OnOk};
+ghost use Rattle.std.specs.Prelude.{◌≡◌, ◌<◌, ◌≤◌, ◌^◌, length, IfOk, OnOk};
 
 use crate::data::setup;
 use crate::stop::Stop;
@@ -49,7 +49,7 @@ fn list(alloc: Global, view: u32, upto: u64) -> ActionList
 /// The lists of both views come, each of which covers as many of the `n` transactions; the last one may cover fewer.
 fn cover(alloc: Global, merge: &mut Merge, n: u64, covered: u64) -> Result<(), Stop>
     requires views { length merge.old.lists ≡ 2 }
-    requires some { 0 < covered }
+    requires some { 1 ≤ covered }
 {
     let mut upto: u64 = 0;
     while upto < n {
@@ -90,7 +90,7 @@ fn handed_out(merge: &mut Merge, n: u64) -> Counts {
 /// A run over `n` transactions, of which each list covers so many.
 pub fn run(alloc: Global, n: u64, covered: u64) -> Result<Counts, Stop>
     requires few { n < 2 ^ 63 }
-    requires some { 0 < covered }
+    requires some { 1 ≤ covered }
 {
     let mut merge = new_merge(alloc)?;
     announce(&mut merge, n)?;
