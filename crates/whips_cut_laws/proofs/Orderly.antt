@@ -4,7 +4,7 @@ use Rattle.std.specs.Prelude.{slice_get, slice_index, fold, is_some}
 use Rattle.std.specs.List.{AllByRecursion, list_any}
 use Rattle.std.proofs.lemmas.Bool.{and_parts, eqb-true, cases_lt}
 use Rattle.std.proofs.lemmas.List.{get_or_past}
-use Rattle.whips_flow.specs.Lists.{changed_at, map_with_place, front, without_front}
+use Rattle.whips_lists.specs.Lists.{changed_at, map_with_place, front, without_front}
 use Rattle.std.specs.Option.{option_and_then}
 use Rattle.std.specs.Prelude.{replicate}
 use Rattle.whips_flow.specs.Facts.{Facts, view_places}

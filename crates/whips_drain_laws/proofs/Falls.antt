@@ -5,7 +5,7 @@ use Rattle.std.specs.List.{list_any}
 use Rattle.std.proofs.lemmas.Bool.{ltb-true, eq-eqb, or_left, or_right, eqb-true, and_parts, not-true}
 use Rattle.std.proofs.lemmas.List.{length-map}
 use Rattle.std.proofs.Math.Nat.{mul-le-mul_left}
-use Rattle.whips_flow.specs.Lists.{changed_at, sum_with_place, front, without_front, places_from, total}
+use Rattle.whips_lists.specs.Lists.{changed_at, sum_with_place, front, without_front, places_from, total}
 use Rattle.std.specs.Option.{option_and_then}
 use Rattle.whips_flow.specs.Facts.{Facts, view_places}
 use Rattle.whips_flow.specs.Painted.{Row, painted_rows, painted_row, closure, is_ready, is_in_or_needed, with_needed, with_needed_again, has_number}

@@ -4,7 +4,7 @@ use Rattle.std.specs.Prelude.{slice_index}
 use Rattle.std.specs.List.{list_any}
 use Rattle.std.proofs.lemmas.Bool.{cases_lt}
 use Rattle.std.proofs.lemmas.List.{get_or_past}
-use Rattle.whips_flow.specs.Lists.{places_from}
+use Rattle.whips_lists.specs.Lists.{places_from}
 use Rattle.whips_flow.specs.Facts.{view_places}
 use Rattle.whips_flow.specs.State.{start}
 use Rattle.whips_flow.specs.Progress.{after}

@@ -3,7 +3,7 @@ use Rattle.std.proofs.Common.{◌≡◌, ℕ, zero, suc, ◌+◌, ◌<◌, ◌�
 use Rattle.std.specs.List.{All, list_any, find}
 use Rattle.std.specs.Option.{option_map}
 use Rattle.std.proofs.lemmas.Bool.{cases_eq, eq-eqb, or_left}
-use Rattle.whips_flow.specs.Lists.{places_from}
+use Rattle.whips_lists.specs.Lists.{places_from}
 use Rattle.whips_flow.specs.Painted.{Row, white, black, is_white, needs, has_number, closure, is_waiting, is_ready}
 use Rattle.whips_flow.specs.State.{Merge}
 use Rattle.whips_flow.specs.Settling.{painted_merge, rows_after_lists}

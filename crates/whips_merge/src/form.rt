@@ -1,6 +1,6 @@
 //! Row sets become transactions.
 ghost use Rattle.std.specs.Prelude.{◌≡◌, ◌∷◌, [], ◌++◌, ◌<◌, ◌≤◌, cond, not, max, None, List, length, map, filter, fold, IfOk, OnOk, OnErr};
-ghost use Rattle.whips_flow.specs.Lists.{changed_at};
+ghost use Rattle.whips_lists.specs.Lists.{changed_at};
 ghost use Rattle.whips_flow.specs.Painted.{Row};
 ghost use Rattle.whips_flow.specs.Cuts.{cut_after};
 ghost use Rattle.whips_flow.specs.Settling.{settled_merge};

@@ -2,7 +2,7 @@
 use Rattle.std.proofs.Common.{◌≡◌, ℕ, zero, suc, ◌*◌, ◌%◌, ◌<◌, ◌≤◌, Bool, true, false, ◌&&◌, not, List, [], ◌∷◌, length, eqb, Option, Some, None, cond, refl, sym, ap, subst, ◌∙◌, arith, ◌⊎◌, inl, inr}
 use Rattle.std.specs.Prelude.{find, is_some, slice_get}
 use Rattle.std.proofs.lemmas.Bool.{and_from, and_parts}
-use Rattle.whips_flow.specs.Lists.{front}
+use Rattle.whips_lists.specs.Lists.{front}
 use Rattle.whips_flow.specs.Painted.{Row}
 use Rattle.whips_flow.specs.Facts.{Facts, Shortage}
 use Rattle.whips_runs.specs.Sessions.{Scan}

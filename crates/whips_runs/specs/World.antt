@@ -1,6 +1,6 @@
 -- The pipeline with its sessions, and what each event of a plan does.
 use Rattle.std.specs.Prelude.{ℕ, zero, suc, ◌/◌, Bool, true, false, List, [], ◌∷◌, ◌++◌, map, replicate, slice_get, Option, Some, None, is_some, if◌then◌else◌}
-use Rattle.whips_flow.specs.Lists.{changed_at}
+use Rattle.whips_lists.specs.Lists.{changed_at}
 use Rattle.whips_flow.specs.Facts.{Facts, view_places}
 use Rattle.whips_flow.specs.State.{Pipeline, start}
 use Rattle.whips_flow.specs.Progress.{is_enabled, next, shortage_at, first_enabled}

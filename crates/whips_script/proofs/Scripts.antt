@@ -12,7 +12,8 @@ use Rattle.whips_model.specs.Relation.{Table, value_of}
 use Rattle.whips_model.specs.Views.{ViewData}
 use Rattle.whips_rel.specs.declared.update.Update.{Update}
 use Rattle.whips_rel.specs.declared.update.Update.TheVariants.{Insert, Delete}
-use Rattle.whips_states.specs.States.{Updates, changed_at, with_row, without_row, updated, applied, all_applied, state_at}
+use Rattle.whips_states.specs.States.{Updates, with_row, without_row, updated, applied, all_applied, state_at}
+use Rattle.whips_lists.specs.Lists.{changed_at}
 use Rattle.whips_view.specs.ViewDefs.{View, view_of, columns_in, HasBases}
 use Rattle.whips_setup.specs.Setups.{SetupData, setup_of}
 use Rattle.whips_setup.specs.Refusals.{setup_refusal}

@@ -3,7 +3,7 @@ use Rattle.std.proofs.Common.{◌≡◌, ℕ, suc, ◌+◌, ◌%◌, ◌<◌, Bo
 use Rattle.std.specs.Prelude.{slice_get, slice_index, map, fold, is_some}
 use Rattle.std.specs.List.{list_all, flat_map}
 use Rattle.std.proofs.lemmas.Bool.{and_parts, and_from, and_cases, eqb-false, ltb-false, false≢true, not_from_false, and_right}
-use Rattle.whips_flow.specs.Lists.{front, without_front, places_from}
+use Rattle.whips_lists.specs.Lists.{front, without_front, places_from}
 use Rattle.std.specs.Option.{option_and_then}
 use Rattle.std.specs.Prelude.{replicate}
 use Rattle.whips_flow.specs.Facts.{Facts, view_places, source_places}

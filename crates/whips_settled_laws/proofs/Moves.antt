@@ -3,7 +3,7 @@ use Rattle.std.proofs.Common.{◌≡◌, ℕ, zero, suc, ◌+◌, ◌-◌, ◌<�
 use Rattle.std.specs.Prelude.{slice_get, slice_index, filter, fold}
 use Rattle.std.specs.List.{AllByRecursion, list_any}
 use Rattle.std.proofs.lemmas.Bool.{and_from, eq-eqb, eqb-true, eqb-false, ltb-true, false≢true, not-true}
-use Rattle.whips_flow.specs.Lists.{changed_at, map_with_place, front, without_front, places_from}
+use Rattle.whips_lists.specs.Lists.{changed_at, map_with_place, front, without_front, places_from}
 use Rattle.whips_flow.specs.Facts.{Facts, view_places}
 use Rattle.whips_flow.specs.Painted.{Row, white}
 use Rattle.whips_flow.specs.State.{Pipeline, Source, Manager, QueryStep, NumberedTransaction, SourceMessage, sent_transaction, sent_answer, ManagerMessage, update, reply, oldest_message, oldest_manager_message, with_source, with_manager}

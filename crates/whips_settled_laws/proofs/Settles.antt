@@ -3,7 +3,7 @@ use Rattle.std.proofs.Common.{◌≡◌, ℕ, zero, suc, ◌+◌, ◌<◌, ◌�
 use Rattle.std.specs.Prelude.{slice_get, map, fold, find}
 use Rattle.std.proofs.lemmas.Bool.{eqb-true, eqb-false, leb-true, leb-false}
 use Rattle.std.proofs.lemmas.List.{length-map}
-use Rattle.whips_flow.specs.Lists.{changed_at, front, without_front}
+use Rattle.whips_lists.specs.Lists.{changed_at, front, without_front}
 use Rattle.whips_flow.specs.Facts.{Facts}
 use Rattle.whips_flow.specs.Painted.{Row, Colour, black, white, red, reddened_entry, painted_rows, painted_row, closure, is_ready, has_number}
 use Rattle.whips_flow.specs.State.{Pipeline, Manager, Merge, oldest_list}

@@ -1,7 +1,7 @@
 -- Elements of lists, and lists of which one element changes.
 use Rattle.std.proofs.Common.{◌≡◌, ℕ, zero, suc, ◌+◌, ◌<◌, ◌≤◌, Bool, true, false, not, List, [], ◌∷◌, ◌++◌, length, Option, Some, None, cond, refl, sym, ap, subst, ◌∙◌, arith, ◌⊎◌, inl, inr}
 use Rattle.std.specs.Prelude.{slice_get, map, filter, find}
-use Rattle.whips_flow.specs.Lists.{changed_at, map_with_place, front, without_front}
+use Rattle.whips_lists.specs.Lists.{changed_at, map_with_place, front, without_front}
 use Rattle.std.specs.Option.{option_and_then}
 use Rattle.std.specs.Prelude.{replicate}
 use Rattle.whips_closure_laws.proofs.Grown.{In}

@@ -6,10 +6,10 @@ use Rattle.std.specs.declared.cmp.Ordering.{Ordering}
 use Rattle.std.specs.declared.cmp.Ordering.TheVariants.{Less, Equal, Greater}
 use Rattle.std.proofs.lemmas.Bool.{cases_lt}
 use Rattle.std.proofs.lemmas.List.{get_or-set_same, get_or-set_other, length-set}
-use Rattle.whips_model.specs.Members.{Has}
+use Rattle.whips_lists.specs.Members.{Has}
 use Rattle.whips_model.specs.Tuples.{Codes, codes_cmp, at_columns, has_key, row_at}
 use Rattle.whips_model.proofs.Keyed.{all_at}
-use Rattle.whips_model.proofs.Members.{has_first, has_later}
+use Rattle.whips_lists.proofs.Members.{has_first, has_later}
 use Rattle.whips_choices.proofs.Rows.{codes_equal, codes_tied, key_is}
 use Rattle.whips_trans_laws.proofs.ByKey.{at_put, same_by_key}
 use Rattle.whips_rel.specs.declared.update.Change.{Change}

@@ -5,11 +5,11 @@ use Rattle.std.specs.List.{cons_option, AllByRecursion}
 use Rattle.std.specs.declared.cmp.Ordering.TheVariants.{Less, Equal}
 use Rattle.std.proofs.lemmas.Bool.{cases_lt, le-leb}
 use Rattle.std.proofs.lemmas.List.{length-set}
-use Rattle.whips_model.specs.Members.{Has}
+use Rattle.whips_lists.specs.Members.{Has}
 use Rattle.whips_model.specs.Tuples.{Codes, codes_cmp, at_columns, row_at, IsKeyed}
 use Rattle.whips_model.specs.Relation.{IsTable}
 use Rattle.whips_model.proofs.Keyed.{all_at, keyed_at}
-use Rattle.whips_model.proofs.Members.{has_at, has_either, has_cases, has_none, has_before, all_has}
+use Rattle.whips_lists.proofs.Members.{has_at, has_either, has_cases, has_none, has_before, all_has}
 use Rattle.whips_choices.proofs.Rows.{codes_tied, row_found}
 use Rattle.whips_trans_laws.proofs.ByKey.{row_of_key}
 use Rattle.whips_rel.specs.declared.update.Change.{Change}

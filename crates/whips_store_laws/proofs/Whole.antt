@@ -9,7 +9,7 @@ use Rattle.whips_model.specs.Relation.{IsTable}
 use Rattle.whips_model.proofs.Keyed.{all_at}
 use Rattle.whips_rel.specs.declared.update.Change.{Change}
 use Rattle.whips_vnl.specs.Records.{visible, steps_after}
-use Rattle.whips_vnl.specs.Staleness.{IsStale}
+use Rattle.whips_flow.specs.Staleness.{IsStale}
 use Rattle.whips_vnl.proofs.Kept.{live_kept}
 use Rattle.whips_store.specs.declared.error.StoreErr.{StoreErr}
 use Rattle.whips_store.specs.declared.error.StoreErr.TheVariants.{Full}

@@ -3,7 +3,7 @@ use Rattle.std.proofs.Common.{◌≡◌, ℕ, zero, suc, false, List, [], ◌∷
 use Rattle.std.specs.Prelude.{map}
 use Rattle.std.specs.List.{AllByRecursion}
 use Rattle.std.proofs.Math.Seq.{take-length}
-use Rattle.whips_model.proofs.Members.{all_from_has}
+use Rattle.whips_lists.proofs.Members.{all_from_has}
 use Rattle.whips_model.specs.Relation.{Table, value_of}
 use Rattle.whips_model.specs.Views.{ViewData}
 use Rattle.whips_rel.specs.Updates.{relation_of}

@@ -1,7 +1,8 @@
 -- What is in a list made from others.
 use Rattle.std.proofs.Common.{◌≡◌, ◌⊎◌, inl, inr, ℕ, zero, suc, ◌<◌, Bool, true, false, cond, List, [], ◌∷◌, ◌++◌, length, map, get_or, refl, sym, ap, subst, arith}
-use Rattle.std.specs.List.{filter, flat_map, AllByRecursion}
-use Rattle.whips_model.specs.Members.{Has}
+use Rattle.std.specs.List.{filter, flat_map, list_any, AllByRecursion}
+use Rattle.std.proofs.lemmas.Bool.{or_left, or_right, or_cases}
+use Rattle.whips_lists.specs.Members.{Has, AreDistinct}
 
 module _ {X : Type 0} where
   pub has_first : (x : X) (xs : List X) → Has x (x ∷ xs)
@@ -101,3 +102,44 @@ module _ {X Y : Type 0} (f : X → List Y) where
     | inl g ↦ (x, inl refl, g)
     | inr g ↦ let k = has_source y xs g in (k.0, inr k.1, k.2)
   ]
+
+-- ---- lists in which no element stands twice
+
+module _ {X : Type 0} where
+  pub distinct_more : (x : X) (xs : List X) → AreDistinct xs → (Has x xs → ⊥) → AreDistinct (xs ++ x ∷ [])
+  distinct_more x [] d h = (has_none x, tt)
+  distinct_more x (y ∷ xs) d h =
+      (λ k. elim (has_either y xs (x ∷ []) k) [
+        | inl g ↦ d.0 g
+        | inr g ↦ elim (has_cases y x [] g) [ inl e ↦ h (subst (λ z. Has z (y ∷ xs)) e (has_first y xs)) | inr g ↦ has_none y g ]
+      ], distinct_more x xs d.1 (λ k. h (has_later x y xs k)))
+
+  pub distinct_filter : (test : X → Bool) (xs : List X) → AreDistinct xs → AreDistinct (filter test xs)
+  distinct_filter test [] d = tt
+  distinct_filter test (x ∷ xs) d = elim (test x) as (λ b. AreDistinct (cond b (x ∷ filter test xs) (filter test xs))) [
+    | true ↦ (λ k. d.0 (has_passed test x xs k).0, distinct_filter test xs d.1)
+    | false ↦ distinct_filter test xs d.1
+  ]
+
+-- ---- some element passes
+
+module _ {X : Type 0} (test : X → Bool) where
+  pub any_from_has : (x : X) (xs : List X) → Has x xs → test x ≡ true → list_any test xs ≡ true
+  unfolding Has
+  any_from_has x [] h e = absurd h
+  any_from_has x (y ∷ xs) (inl same) e = or_left (test y) (list_any test xs) (subst (λ z. test z ≡ true) same e)
+  any_from_has x (y ∷ xs) (inr h) e = or_right (test y) (list_any test xs) (any_from_has x xs h e)
+
+  pub has_from_any : (xs : List X) → list_any test xs ≡ true → (x : X) × Has x xs × (test x ≡ true)
+  has_from_any [] e = absurd (cc)
+  has_from_any (y ∷ xs) e = elim (or_cases (test y) (list_any test xs) e) [
+    | inl h ↦ (y, has_first y xs, h)
+    | inr h ↦ let g = has_from_any xs h in (g.0, has_later g.0 y xs g.1, g.2)
+  ]
+
+  pub none_from_has : (xs : List X) → ((x : X) → Has x xs → test x ≡ true → ⊥) → list_any test xs ≡ false
+  none_from_has xs h = go (list_any test xs) refl
+    where
+      go : (b : Bool) → list_any test xs ≡ b → b ≡ false
+      go true e = let g = has_from_any xs e in absurd (h g.0 g.1 g.2)
+      go false e = refl
