@@ -15,7 +15,7 @@ use Rattle.whips_steps.specs.Answers.{AllDifferInKey, IsWhole, tables_of, has_ke
 use Rattle.whips_steps.proofs.Fills.{with_all, differ_filter, differ_rows}
 use Rattle.whips_steps.proofs.Stepping.{parts_distinct, parts_free, filled_next, filled_first, all_filled}
 use Rattle.whips_managers.specs.Managers.{is_named}
-use Rattle.whips_managers.specs.Messages.{IsFilledBefore}
+use Rattle.whips_steps.specs.Filled.{IsFilledBefore}
 use Rattle.whips_ask_laws.specs.Laws.{AskNamesStep, AskIsFree, AnswerFits, LastIsWhole, SeedsAreWhole}
 use Rattle.whips_ask_laws.proofs.Extended.{AreFilledAt, fill_parts}
 

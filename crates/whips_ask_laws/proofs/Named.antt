@@ -19,7 +19,8 @@ use Rattle.whips_steps.specs.Steps.{asked_sources}
 use Rattle.whips_lists.specs.Lists.{places_from}
 use Rattle.whips_lists.proofs.Places.{below_is}
 use Rattle.whips_managers.specs.Managers.{Query, ManagerState, name_of, with_pending, with_deletion, with_deletions, new_query, with_query, with_put, put_or_asked, with_given, with_all_given, moved_on, has_next, with_step, with_answer, with_reply_to, is_named, with_reply_behind}
-use Rattle.whips_managers.specs.Messages.{IsFilledBefore, CanAsk, HasWidth, HaveWidths, Fits}
+use Rattle.whips_steps.specs.Filled.{IsFilledBefore}
+use Rattle.whips_managers.specs.Messages.{CanAsk, HasWidth, HaveWidths, Fits}
 use Rattle.whips_manager_laws.proofs.Invariant.{mid_cases, mid_has, mid_rest}
 use Rattle.whips_manager_trans_laws.proofs.Keys.{last_there}
 use Rattle.whips_manager_trans_laws.proofs.Replies.{named_once, name_is}

@@ -10,7 +10,8 @@ use Rattle.whips_steps.specs.Steps.{asked_sources}
 use Rattle.whips_lists.specs.Lists.{places_from}
 use Rattle.whips_view.specs.ViewDefs.{View, keyed}
 use Rattle.whips_managers.specs.Managers.{ManagerState, with_deletion, with_deletions, with_put, with_query, put_or_asked, with_given, with_all_given, with_transaction}
-use Rattle.whips_managers.specs.Messages.{widths_of, HaveWidths}
+use Rattle.whips_view.specs.Widths.{widths_of}
+use Rattle.whips_managers.specs.Messages.{HaveWidths}
 use Rattle.whips_manager_bench.specs.Pairs.{pair_columns, IsOfPairs, ArePairs}
 
 -- each of two relations of pairs has two columns

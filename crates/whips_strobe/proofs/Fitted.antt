@@ -13,7 +13,7 @@ use Rattle.whips_choices.specs.Partials.{Partial}
 use Rattle.whips_choices.proofs.Rows.{codes_equal, codes_tied}
 use Rattle.whips_steps.specs.Steps.{home, asked_sources, is_filled}
 use Rattle.whips_steps.specs.Answers.{DifferInKey, AllDifferInKey}
-use Rattle.whips_managers.specs.Messages.{IsFilledBefore}
+use Rattle.whips_steps.specs.Filled.{IsFilledBefore}
 use Rattle.whips_strobe.specs.Fitting.{is_filled_as, are_filled_before, is_filled_before, differ_at, differ_below, all_differ}
 
 -- ---- which parts are filled

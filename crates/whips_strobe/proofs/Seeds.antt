@@ -12,7 +12,7 @@ use Rattle.whips_steps.specs.Steps.{StepData, steps, parts_of_source, asked_sour
 use Rattle.whips_steps.specs.Answers.{IsWhole, AllDifferInKey}
 use Rattle.whips_steps.proofs.Fills.{differ_rows}
 use Rattle.whips_steps.proofs.Stepping.{all_filled, filled_first}
-use Rattle.whips_managers.specs.Messages.{IsFilledBefore}
+use Rattle.whips_steps.specs.Filled.{IsFilledBefore}
 
 module _ (v : KeyedView) (part : ℕ) (lt : part < length v.keys) where
   seed_filled : (t : Codes) (j : ℕ) → is_some (slot (seed (length v.keys) part t) j) ≡ is_filled v part 1 j

@@ -23,9 +23,11 @@ use Rattle.whips_view.specs.ViewDefs.{View, keyed, row_columns}
 use Rattle.whips_actions.specs.declared.action.Action.{Action}
 use Rattle.whips_actions.specs.Lists.{IsActionOf, AreActionsOf}
 use Rattle.whips_managers.specs.Managers.{Query, ManagerState, with_pending, with_deletion, with_deletions, with_given, with_put, with_query, with_all_given, with_transaction, put_or_asked, moved_on, has_next, with_reply, kept_where, list_where, without_list}
-use Rattle.whips_managers.specs.Messages.{IsFilledBefore, CanAsk, AllCanAsk, widths_of, HasWidth, HaveWidths, Fits, ask_of, asks_after}
+use Rattle.whips_steps.specs.Filled.{IsFilledBefore}
+use Rattle.whips_view.specs.Widths.{widths_of}
+use Rattle.whips_managers.specs.Messages.{CanAsk, AllCanAsk, HasWidth, HaveWidths, Fits, ask_of, asks_after}
 use Rattle.whips_strobe.specs.Strobes.{IsStateOf}
-use Rattle.whips_strobe.specs.Outs.{all_sent_by, list_by, IsAskOf}
+use Rattle.whips_strobe.specs.Outs.{all_sent_by, list_by, IsSentAsk}
 use Rattle.whips_actions.specs.declared.action.ActionList.{ActionList}
 use Rattle.std.specs.Option.{option_map}
 use Rattle.std.proofs.lemmas.Bool.{ltb-true}
@@ -204,12 +206,12 @@ module _ (view : View) where
 
   -- ---- asks
 
-  pub asks_sound : (number first : ℕ) (m : ManagerState) → IsStateOf view m → AllByRecursion (IsAskOf view) (all_sent_by number (map (ask_of (keyed view)) (drop first m.queries)))
+  pub asks_sound : (number first : ℕ) (m : ManagerState) → IsStateOf view m → AllByRecursion (IsSentAsk view) (all_sent_by number (map (ask_of (keyed view)) (drop first m.queries)))
   asks_sound number first m h = go (drop first m.queries) (all_drop (CanAsk (keyed view) (widths_of view)) m.queries first h.queries)
     where
-      go : (qs : List Query) → AllCanAsk (keyed view) (widths_of view) qs → AllByRecursion (IsAskOf view) (all_sent_by number (map (ask_of (keyed view)) qs))
+      go : (qs : List Query) → AllCanAsk (keyed view) (widths_of view) qs → AllByRecursion (IsSentAsk view) (all_sent_by number (map (ask_of (keyed view)) qs))
       go [] g = tt
-      go (q ∷ qs) g = (let a = g.0 in record { origin = at_base q.origin a.origin; first = a.low; last = a.high; source = refl; filled = a.filled }, go qs g.1)
+      go (q ∷ qs) g = (let a = g.0 in record { ask = record { origin = at_base q.origin a.origin; first = a.low; last = a.high; filled = a.filled }; source = refl }, go qs g.1)
 
   -- ---- a reply
 
@@ -247,18 +249,18 @@ module _ (view : View) where
     pub sound_reply : AreInOrder m.queries → IsStateOf view (with_reply (keyed view) (row_columns view) m transaction origin ps)
     sound_reply order = after_reply order (place_named transaction origin m.queries) refl
 
-    asked_after : (number : ℕ) → AreInOrder m.queries → (o : Option ℕ) → place_named transaction origin m.queries ≡ o → AllByRecursion (IsAskOf view) (all_sent_by number (asks_after (keyed view) m.queries transaction origin ps))
-    asked_after number order None e = subst (λ l. AllByRecursion (IsAskOf view) (all_sent_by number l)) (sym (asks_lost transaction origin (keyed view) ps m.queries e)) tt
-    asked_after number order (Some i) e = subst (λ l. AllByRecursion (IsAskOf view) (all_sent_by number l)) (sym (asks_at transaction origin (keyed view) ps m.queries i r.query r.place r.at)) (go (has_next (keyed view) r.query) refl)
+    asked_after : (number : ℕ) → AreInOrder m.queries → (o : Option ℕ) → place_named transaction origin m.queries ≡ o → AllByRecursion (IsSentAsk view) (all_sent_by number (asks_after (keyed view) m.queries transaction origin ps))
+    asked_after number order None e = subst (λ l. AllByRecursion (IsSentAsk view) (all_sent_by number l)) (sym (asks_lost transaction origin (keyed view) ps m.queries e)) tt
+    asked_after number order (Some i) e = subst (λ l. AllByRecursion (IsSentAsk view) (all_sent_by number l)) (sym (asks_at transaction origin (keyed view) ps m.queries i r.query r.place r.at)) (go (has_next (keyed view) r.query) refl)
       where
         r : IsRepliedAt m transaction origin step i
         r = replied_at m m.queries transaction origin step i refl (sym e) order fits.open_query
 
-        go : (b : Bool) → has_next (keyed view) r.query ≡ b → AllByRecursion (IsAskOf view) (all_sent_by number (cond b (ask_of (keyed view) (moved_on r.query ps) ∷ []) []))
-        go true next = let a = moved_sound i r next in (record { origin = at_base r.query.origin a.origin; first = a.low; last = a.high; source = refl; filled = a.filled }, tt)
+        go : (b : Bool) → has_next (keyed view) r.query ≡ b → AllByRecursion (IsSentAsk view) (all_sent_by number (cond b (ask_of (keyed view) (moved_on r.query ps) ∷ []) []))
+        go true next = let a = moved_sound i r next in (record { ask = record { origin = at_base r.query.origin a.origin; first = a.low; last = a.high; filled = a.filled }; source = refl }, tt)
         go false next = tt
 
-    pub sound_asked : (number : ℕ) → AreInOrder m.queries → AllByRecursion (IsAskOf view) (all_sent_by number (asks_after (keyed view) m.queries transaction origin ps))
+    pub sound_asked : (number : ℕ) → AreInOrder m.queries → AllByRecursion (IsSentAsk view) (all_sent_by number (asks_after (keyed view) m.queries transaction origin ps))
     sound_asked number order = asked_after number order (place_named transaction origin m.queries) refl
 
   pub list_sound : (number : ℕ) (m : ManagerState) → IsStateOf view m → IfSome (list_by number m) (λ (l : ActionList). AreActionsOf view l.actions)

@@ -4,7 +4,8 @@ use Rattle.std.specs.List.{AllByRecursion}
 use Rattle.whips_view.specs.ViewDefs.{View, keyed}
 use Rattle.whips_actions.specs.Lists.{AreActionsOf}
 use Rattle.whips_managers.specs.Managers.{ManagerState}
-use Rattle.whips_managers.specs.Messages.{AllCanAsk, widths_of, Fits}
+use Rattle.whips_view.specs.Widths.{widths_of}
+use Rattle.whips_managers.specs.Messages.{AllCanAsk, Fits}
 use Rattle.whips_query.specs.declared.asks.Reply.{Reply}
 
 -- A manager: the number of its view, the view, whether it is stopped for want of memory, and its state.

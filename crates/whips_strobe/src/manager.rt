@@ -5,9 +5,10 @@ ghost use Rattle.whips_states.specs.Concerns.{concerns};
 ghost use Rattle.whips_view.specs.ViewDefs.{keyed, row_columns};
 ghost use Rattle.whips_actions.specs.Lists.{AreActionsOf};
 ghost use Rattle.whips_managers.specs.Managers.{new_manager, with_transaction, with_reply, without_list};
-ghost use Rattle.whips_managers.specs.Messages.{new_asks, asks_after, is_open, widths_of, HaveWidths};
+ghost use Rattle.whips_view.specs.Widths.{widths_of};
+ghost use Rattle.whips_managers.specs.Messages.{new_asks, asks_after, is_open, HaveWidths};
 ghost use Rattle.whips_strobe.specs.Strobes.{FitsManager};
-ghost use Rattle.whips_strobe.specs.Outs.{all_sent_by, list_by, IsAskOf};
+ghost use Rattle.whips_strobe.specs.Outs.{all_sent_by, list_by, IsSentAsk};
 
 use crate::state::State;
 use std::alloc::Global;
@@ -75,7 +76,7 @@ impl Manager {
         ensures state { OnOk result (self.new ≡ record self.old { state = without_list (with_transaction (keyed self.old.view) (row_columns self.old.view) self.old.state number t.now) }) }
         ensures asks { IfOk result (λ out. out.asks.items ≡ all_sent_by self.old.number (new_asks (keyed self.old.view) self.old.state (with_transaction (keyed self.old.view) (row_columns self.old.view) self.old.state number t.now))) }
         ensures list { IfOk result (λ out. out.list ≡ list_by self.old.number (with_transaction (keyed self.old.view) (row_columns self.old.view) self.old.state number t.now)) }
-        ensures asked { IfOk result (λ out. AllByRecursion (IsAskOf self.old.view) out.asks.items) }
+        ensures asked { IfOk result (λ out. AllByRecursion (IsSentAsk self.old.view) out.asks.items) }
         ensures actions { IfOk result (λ out. IfSome out.list (λ l. AreActionsOf self.old.view l.actions)) }
         ensures went_on { OnOk result (self.old.stopped ≡ false) }
         ensures stopped { OnErr result (self.new.stopped ≡ true) }
@@ -104,7 +105,7 @@ impl Manager {
         ensures state { OnOk result (self.new ≡ record self.old { state = without_list (with_reply (keyed self.old.view) (row_columns self.old.view) self.old.state r.update r.origin r.partials) }) }
         ensures asks { IfOk result (λ out. out.asks.items ≡ all_sent_by self.old.number (asks_after (keyed self.old.view) self.old.state.queries r.update r.origin r.partials)) }
         ensures list { IfOk result (λ out. out.list ≡ list_by self.old.number (with_reply (keyed self.old.view) (row_columns self.old.view) self.old.state r.update r.origin r.partials)) }
-        ensures asked { IfOk result (λ out. AllByRecursion (IsAskOf self.old.view) out.asks.items) }
+        ensures asked { IfOk result (λ out. AllByRecursion (IsSentAsk self.old.view) out.asks.items) }
         ensures actions { IfOk result (λ out. IfSome out.list (λ l. AreActionsOf self.old.view l.actions)) }
         ensures went_on { OnOk result (self.old.stopped ≡ false) }
         ensures stopped { OnErr result (self.new.stopped ≡ true) }

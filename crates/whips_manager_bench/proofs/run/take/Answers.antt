@@ -1,6 +1,7 @@
 use Rattle.std.proofs.Common.{subst, sym, ap, ◌∙◌}
 use Rattle.whips_view.specs.ViewDefs.{View, keyed, row_columns}
-use Rattle.whips_managers.specs.Messages.{widths_of, HaveWidths}
+use Rattle.whips_view.specs.Widths.{widths_of}
+use Rattle.whips_managers.specs.Messages.{HaveWidths}
 use Rattle.whips_strobe.specs.Strobes.{ManagerData}
 use Rattle.whips_manager_bench.proofs.Fed.{pairs_wide, last_taken}
 use Rattle.whips_manager_bench.proofs.run.take.Goals as goal

@@ -1,7 +1,7 @@
 use Rattle.std.proofs.Common.{◌≡◌, ◌+◌, true, take}
 use Rattle.std.specs.List.{list_all}
 use Rattle.whips_view.specs.ViewDefs.{keyed}
-use Rattle.whips_managers.specs.Messages.{widths_of}
+use Rattle.whips_view.specs.Widths.{widths_of}
 use Rattle.whips_strobe.specs.Fitting.{is_filled_before}
 use Rattle.whips_strobe.proofs.fits.are_filled_after.Given as goal
 

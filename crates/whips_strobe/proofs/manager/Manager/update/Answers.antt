@@ -1,7 +1,8 @@
 use Rattle.std.proofs.Common.{◌<◌, arith, subst, sym, ap}
 use Rattle.whips_view.specs.ViewDefs.{keyed, row_columns}
 use Rattle.whips_managers.specs.Managers.{with_transaction}
-use Rattle.whips_managers.specs.Messages.{widths_of, HaveWidths}
+use Rattle.whips_view.specs.Widths.{widths_of}
+use Rattle.whips_managers.specs.Messages.{HaveWidths}
 use Rattle.whips_strobe.specs.Strobes.{ManagerData}
 use Rattle.whips_strobe.proofs.Sound.{sound_transaction, sound_listed, asks_sound, list_sound}
 use Rattle.whips_strobe.proofs.manager.Manager.update.Goals as goal

@@ -8,7 +8,7 @@ use Rattle.whips_steps.specs.Answers.{IsWhole, unstruck}
 use Rattle.whips_view.specs.ViewDefs.{keyed, row_columns}
 use Rattle.whips_managers.specs.Managers.{Query, ManagerState, moved_on, put_of}
 use Rattle.whips_managers.specs.Messages.{ask_of}
-use Rattle.whips_managers.specs.Messages.{widths_of}
+use Rattle.whips_view.specs.Widths.{widths_of}
 use Rattle.whips_strobe.specs.Outs.{sent_by, all_sent_by}
 use Rattle.whips_strobe.proofs.Seeds.{all_whole}
 use Rattle.whips_strobe.proofs.Replies.{replied_at, reply_lost, asks_lost, get_below, count_steps, has_next_step, has_no_next, few_relations, steps_bound, reply_moves, reply_ends, asks_at}
