@@ -18,7 +18,7 @@ use Rattle.whips_cut_laws.specs.Cuts.{HasSoundCuts}
 use Rattle.whips_cut_laws.proofs.Orderly.{advance}
 use Rattle.whips_settled_laws.specs.Settled.{IsSettled}
 use Rattle.whips_settled_laws.proofs.Ends.{nothing_left}
-use Rattle.whips_settled_laws.proofs.Spots.{length_copies}
+use Rattle.std.proofs.lemmas.List.{length-replicate}
 use Rattle.whips_run_laws.specs.Reached.{IsReached}
 use Rattle.whips_run_laws.proofs.Turns.{ends}
 use Rattle.whips_run_laws.proofs.Reaches.{start_reached, listed_plan_reached, picked_plan_reached, drained_reached}
@@ -33,7 +33,7 @@ after_shaped f [] p h = h
 after_shaped f (e ∷ es) p h = after_shaped f es (step f p e) (step_shaped f p e h)
 
 reached_shaped : (f : Facts) (p : Pipeline) → IsReached f p → HasAllManagers f p
-reached_shaped f p r = subst (HasAllManagers f) r.led (after_shaped f r.events (start f) (length_copies (length f.slots) _))
+reached_shaped f p r = subst (HasAllManagers f) r.led (after_shaped f r.events (start f) (length-replicate (length f.slots) _))
 
 -- a run with its final records has the pipeline that it had before, and is full where it was
 unless_full : (s : Script) (b : Bool) (w z : World) → w.is_full ≡ b → z.pipeline ≡ w.pipeline → z.is_full ≡ w.is_full → EndsWell s w → EndsWell s (cond b w z)

@@ -8,10 +8,10 @@ use Rattle.whips_lists.specs.Lists.{places_from}
 use Rattle.whips_flow.specs.Facts.{view_places}
 use Rattle.whips_flow.specs.State.{start}
 use Rattle.whips_flow.specs.Progress.{after}
-use Rattle.whips_closure_laws.proofs.Grown.{In, any_from, all_in}
+use Rattle.whips_lists.proofs.InList.{In, any_from, all_in}
 use Rattle.whips_cut_laws.proofs.Orderly.{IsUnconcerned, after_kept, start_orderly, above_top, top_is_cut}
 use Rattle.whips_settled_laws.specs.Settled.{IsQuietSource}
-use Rattle.whips_settled_laws.proofs.Spots.{get_in, get_there}
+use Rattle.whips_lists.proofs.ByPlace.{get_in, get_there}
 use Rattle.whips_settled_laws.proofs.Ends.{nothing_left, after_sound, start_sound}
 use Rattle.whips_last_cut_laws.specs.LastCut.{LastCutIsComplete}
 

@@ -8,7 +8,8 @@ use Rattle.whips_flow.specs.Painted.{Row, white, black, is_white, needs, has_num
 use Rattle.whips_flow.specs.State.{Merge}
 use Rattle.whips_flow.specs.Settling.{painted_merge, rows_after_lists}
 use Rattle.whips_closure_laws.specs.Closure.{IsClosed}
-use Rattle.whips_closure_laws.proofs.Grown.{In, all_in, all_from, any_from, closure_least}
+use Rattle.whips_closure_laws.proofs.Grown.{closure_least}
+use Rattle.whips_lists.proofs.InList.{In, all_in, all_from, any_from}
 use Rattle.whips_settled_laws.proofs.Settles.{settled_is}
 use Rattle.whips_paint.specs.Table.{ready_numbers, new_entries}
 use Rattle.whips_paint.proofs.Entries.{list_any-map}

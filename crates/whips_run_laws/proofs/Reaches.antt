@@ -13,7 +13,8 @@ use Rattle.whips_runs.specs.World.{World, is_allowed, after_event, after_turn, w
 use Rattle.whips_runs.specs.Picks.{all_events, is_scan, choices, picked_choice, after_picked_plan}
 use Rattle.whips_runs.specs.Records.{skip, final, final_rows}
 use Rattle.whips_run_laws.specs.Reached.{IsReached, ListedRunsAreReached, PickedRunsAreReached}
-use Rattle.whips_run_laws.proofs.Turns.{turn_step, found_passes}
+use Rattle.whips_run_laws.proofs.Turns.{turn_step}
+use Rattle.whips_lists.proofs.Options.{found_passes}
 
 pub after_join : (f : Facts) (p : Pipeline) (es more : List Event) → after f p (es ++ more) ≡ after f (after f p es) more
 after_join f p [] more = refl

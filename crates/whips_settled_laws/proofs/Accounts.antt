@@ -7,8 +7,10 @@ use Rattle.whips_flow.specs.Facts.{Facts}
 use Rattle.whips_flow.specs.Painted.{Row, white, is_ready}
 use Rattle.whips_flow.specs.State.{Pipeline, Source, Manager, Merge, QueryStep, NumberedTransaction, SourceMessage, sent_transaction, sent_answer, ManagerMessage, update, reply, with_source}
 use Rattle.whips_flow.specs.Effects.{with_ask, after_commit, after_answer, with_step_asked, with_list_unless, with_list_if_answered}
-use Rattle.whips_closure_laws.proofs.Grown.{In}
-use Rattle.whips_settled_laws.proofs.Spots.{some_same, front_is, in_append, in_left, in_right, in_changed, in_changed_from, get_in, get_there, get_changed, get_cases, get_changed_other, length_changed}
+use Rattle.whips_lists.proofs.InList.{In}
+use Rattle.whips_lists.proofs.ByPlace.{in_append, in_left, in_right, in_changed, in_changed_from, get_in, get_there, get_changed, get_cases, get_changed_other}
+use Rattle.whips_lists.proofs.Options.{some_same}
+use Rattle.whips_lists.proofs.Lists.{front_is, length_changed}
 
 -- ---- the open steps
 

@@ -11,7 +11,7 @@ use Rattle.whips_states.specs.Concerns.{concerns}
 use Rattle.whips_flow.specs.State.{start}
 use Rattle.whips_flow.specs.Progress.{after}
 use Rattle.whips_cut_laws.proofs.Orderly.{after_kept, start_orderly}
-use Rattle.whips_settled_laws.proofs.Spots.{get_within}
+use Rattle.whips_lists.proofs.ByPlace.{get_within}
 use Rattle.whips_settled_laws.proofs.Ends.{nothing_left, after_sound, start_sound}
 use Rattle.whips_last_cut_laws.proofs.Complete.{complete}
 use Rattle.whips_facts.specs.Scripts.{Script, value_at, view_at, no_view, transaction_at}

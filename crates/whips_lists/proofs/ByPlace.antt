@@ -1,25 +1,10 @@
 -- Elements of lists, and lists of which one element changes.
 use Rattle.std.proofs.Common.{◌≡◌, ℕ, zero, suc, ◌+◌, ◌<◌, ◌≤◌, Bool, true, false, not, List, [], ◌∷◌, ◌++◌, length, Option, Some, None, cond, refl, sym, ap, subst, ◌∙◌, arith, ◌⊎◌, inl, inr}
-use Rattle.std.specs.Prelude.{slice_get, map, filter, find}
+use Rattle.std.specs.Prelude.{slice_get, map, filter, find, replicate}
 use Rattle.whips_lists.specs.Lists.{changed_at, map_with_place, front, without_front}
 use Rattle.std.specs.Option.{option_and_then}
-use Rattle.std.specs.Prelude.{replicate}
-use Rattle.whips_closure_laws.proofs.Grown.{In}
-
-pub some_same : {A : Type 0} (x y : A) → Some x ≡ Some y → x ≡ y
-some_same x y e = cc
-
-pub of_some_is : {A B : Type 0} (o : Option A) (g : A → Option B) (b : B) → option_and_then g o ≡ Some b → (a : A) × (o ≡ Some a) × (g a ≡ Some b)
-of_some_is None g b h = absurd (cc)
-of_some_is (Some a) g b h = (a, refl, h)
-
-pub front_is : {A : Type 0} (xs : List A) (x : A) → front xs ≡ Some x → xs ≡ x ∷ without_front xs
-front_is [] x h = absurd (cc)
-front_is (y ∷ xs) x h = ap (λ z. z ∷ xs) (some_same y x h)
-
-pub front_nil : {A : Type 0} (xs : List A) → front xs ≡ None → xs ≡ []
-front_nil [] h = refl
-front_nil (y ∷ xs) h = absurd (cc)
+use Rattle.whips_lists.proofs.InList.{In}
+use Rattle.whips_lists.proofs.Options.{some_same}
 
 module _ {A : Type 0} where
   pub in_append : (x : A) (xs ys : List A) → In x (xs ++ ys) → In x xs ⊎ In x ys
@@ -122,19 +107,10 @@ module _ {A : Type 0} where
   get_changed_other g (suc i) zero (z ∷ xs) ne = refl
   get_changed_other g (suc i) (suc j) (z ∷ xs) ne = get_changed_other g i j xs (λ e. ne (ap suc e))
 
-  pub length_changed : (g : A → A) (i : ℕ) (xs : List A) → length (changed_at i g xs) ≡ length xs
-  length_changed g i [] = refl
-  length_changed g zero (x ∷ xs) = refl
-  length_changed g (suc i) (x ∷ xs) = ap suc (length_changed g i xs)
-
   pub changed_twice : (g h : A → A) (i : ℕ) (xs : List A) → changed_at i g (changed_at i h xs) ≡ changed_at i (λ x. g (h x)) xs
   changed_twice g h i [] = refl
   changed_twice g h zero (x ∷ xs) = refl
   changed_twice g h (suc i) (x ∷ xs) = ap (λ z. x ∷ z) (changed_twice g h i xs)
-
-  pub length_map_at : {B : Type 0} (g : ℕ → A → B) (k : ℕ) (xs : List A) → length (map_with_place g k xs) ≡ length xs
-  length_map_at g k [] = refl
-  length_map_at g k (x ∷ xs) = ap suc (length_map_at g (suc k) xs)
 
   pub get_map_at : {B : Type 0} (g : ℕ → A → B) (k i j : ℕ) (xs : List A) (y : B) → j ≡ k + i → slice_get (map_with_place g k xs) i ≡ Some y → (x : A) × (slice_get xs i ≡ Some x) × (g j x ≡ y)
   get_map_at g k i j [] y e h = absurd (cc)
@@ -185,7 +161,3 @@ pub in_copies : {A : Type 0} (n : ℕ) (x y : A) → In y (replicate n x) → x 
 in_copies zero x y i = absurd i
 in_copies (suc n) x y (inl e) = e
 in_copies (suc n) x y (inr i) = in_copies n x y i
-
-pub length_copies : {A : Type 0} (n : ℕ) (x : A) → length (replicate n x) ≡ n
-length_copies zero x = refl
-length_copies (suc n) x = ap suc (length_copies n x)
