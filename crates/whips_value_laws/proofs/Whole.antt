@@ -13,7 +13,7 @@ use Rattle.whips_flow.specs.Progress.{after}
 use Rattle.whips_cut_laws.proofs.Orderly.{after_kept, start_orderly}
 use Rattle.whips_lists.proofs.ByPlace.{get_within}
 use Rattle.whips_settled_laws.proofs.Ends.{nothing_left, after_sound, start_sound}
-use Rattle.whips_last_cut_laws.proofs.Complete.{complete}
+use Rattle.whips_settled_laws.proofs.Complete.{complete}
 use Rattle.whips_facts.specs.Scripts.{Script, value_at, view_at, no_view, transaction_at}
 use Rattle.whips_lists.proofs.Lists.{length_map_at}
 use Rattle.whips_view.specs.ViewDefs.{View, keyed}

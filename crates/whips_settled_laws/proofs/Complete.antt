@@ -13,7 +13,7 @@ use Rattle.whips_cut_laws.proofs.Orderly.{IsUnconcerned, after_kept, start_order
 use Rattle.whips_settled_laws.specs.Settled.{IsQuietSource}
 use Rattle.whips_lists.proofs.ByPlace.{get_in, get_there}
 use Rattle.whips_settled_laws.proofs.Ends.{nothing_left, after_sound, start_sound}
-use Rattle.whips_last_cut_laws.specs.LastCut.{LastCutIsComplete}
+use Rattle.whips_settled_laws.specs.LastCut.{LastCutIsComplete}
 
 in_places : (k n x : ℕ) → k ≤ x → x < k + n → In x (places_from k n)
 in_places k zero x a b = absurd (omega arith)
