@@ -33,7 +33,7 @@ same_place zero (suc j) = inr (λ e. omega (arith, e))
 same_place (suc i) zero = inr (λ e. omega (arith, e))
 same_place (suc i) (suc j) = elim (same_place i j) [ inl e ↦ inl (ap suc e) | inr ne ↦ inr (λ e. ne (omega (arith, e))) ]
 
-map_same : {A B : Type 0} (f g : A → B) (xs : List A) → ((x : A) → Has x xs → f x ≡ g x) → map f xs ≡ map g xs
+pub map_same : {A B : Type 0} (f g : A → B) (xs : List A) → ((x : A) → Has x xs → f x ≡ g x) → map f xs ≡ map g xs
 map_same f g [] h = refl
 map_same f g (x ∷ xs) h = ap (λ y. y ∷ map f xs) (h x (has_first x xs)) ∙ ap (λ l. g x ∷ l) (map_same f g xs (λ y k. h y (has_later y x xs k)))
 

@@ -115,7 +115,7 @@ pub none_written : (cols : List ℕ) (n phase c : ℕ) (new : List Codes) (recor
 none_written cols n phase c new records le h = all_mapped (IsSlot n phase) (λ steps. is_older c steps ≡ false → IsWritten cols n c new steps) records
     (λ steps s f. absurd (let t = within_older phase c steps s.within le in cc)) h
 
-next_same : (n phase c : ℕ) (records : List (List Vstep)) → (phase + 1) / 2 ≤ c → AllByRecursion (IsSlot n phase) records → rows_at n (suc c) records ≡ rows_at n c records
+pub next_same : (n phase c : ℕ) (records : List (List Vstep)) → (phase + 1) / 2 ≤ c → AllByRecursion (IsSlot n phase) records → rows_at n (suc c) records ≡ rows_at n c records
 next_same n phase c [] le h = refl
 next_same n phase c (steps ∷ records) le h =
     ap (λ s. cons_option (row_seen s) (rows_at n (suc c) records)) (below_same n c steps (older_below c steps (within_older phase c steps h.0.within le)))

@@ -26,14 +26,14 @@ all_from_places : {A : Type 0} (P : A → Type 0) (xs : List A) → ((i : ℕ) (
 all_from_places P [] h = tt
 all_from_places P (x ∷ xs) h = (h zero x refl, all_from_places P xs (λ i y e. h (suc i) y e))
 
-apart_from : (work : List (List Updates)) → ((y z : ℕ) (ts us : List Updates) (r : ℕ) → slice_get work y ≡ Some ts → slice_get work z ≡ Some us → Changes ts r → Changes us r → y ≡ z) → AreApart work
+pub apart_from : (work : List (List Updates)) → ((y z : ℕ) (ts us : List Updates) (r : ℕ) → slice_get work y ≡ Some ts → slice_get work z ≡ Some us → Changes ts r → Changes us r → y ≡ z) → AreApart work
 apart_from [] g = tt
 apart_from (ts ∷ work) g = (
   all_from_places (λ us. (r : ℕ) → Changes ts r → Changes us r → ⊥) work (λ i us e r a b. let same : zero ≡ suc i = g zero (suc i) ts us r refl e a b in absurd (omega (arith, same))),
   apart_from work (λ y z ts us r a b c d. omega (arith, g (suc y) (suc z) ts us r a b c d)),
 )
 
-drop_all : (P : Updates → Type 0) (c : ℕ) (ts : List Updates) → ((j : ℕ) (t : Updates) → c ≤ j → slice_get ts j ≡ Some t → P t) → AllByRecursion P (drop c ts)
+pub drop_all : (P : Updates → Type 0) (c : ℕ) (ts : List Updates) → ((j : ℕ) (t : Updates) → c ≤ j → slice_get ts j ≡ Some t → P t) → AllByRecursion P (drop c ts)
 drop_all P zero ts g = all_from_places P ts (λ j t e. g j t (omega arith) e)
 drop_all P (suc c) [] g = tt
 drop_all P (suc c) (t ∷ ts) g = drop_all P c ts (λ j u le e. g (suc j) u (omega (arith, le)) e)
@@ -48,12 +48,12 @@ index_of_lengths [] y ts e = absurd (cc)
 index_of_lengths (us ∷ work) zero ts e = let same : us ≡ ts = cc in ap length same
 index_of_lengths (us ∷ work) (suc y) ts e = index_of_lengths work y ts e
 
-transaction_there : (s : Script) (y j : ℕ) (ts : List Updates) (t : Updates) → slice_get s.work y ≡ Some ts → slice_get ts j ≡ Some t → transaction_at s y (suc j) ≡ t
+pub transaction_there : (s : Script) (y j : ℕ) (ts : List Updates) (t : Updates) → slice_get s.work y ≡ Some ts → slice_get ts j ≡ Some t → transaction_at s y (suc j) ≡ t
 transaction_there s y j ts t a b =
     let one : suc j - 1 ≡ j = omega arith in
     ap (λ o. unwrap_or (option_and_then (λ ts. slice_get ts (suc j - 1)) o) []) a ∙ (ap (λ n. unwrap_or (slice_get ts n) []) one ∙ ap (λ o. unwrap_or o []) b)
 
-past_the_end : {A : Type 0} (xs : List A) (i : ℕ) → length xs ≤ i → slice_get xs i ≡ None
+pub past_the_end : {A : Type 0} (xs : List A) (i : ℕ) → length xs ≤ i → slice_get xs i ≡ None
 past_the_end [] i le = refl
 past_the_end (x ∷ xs) zero le = absurd (omega (arith, le))
 past_the_end (x ∷ xs) (suc i) le = past_the_end xs i (omega (arith, le))
