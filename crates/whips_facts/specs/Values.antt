@@ -14,8 +14,7 @@ use Rattle.whips_flow.specs.State.{Pipeline, Manager, count_of_source, start, ve
 use Rattle.whips_flow.specs.Progress.{step, after, first_enabled}
 use Rattle.whips_flow.specs.declared.event.Event.{Event}
 use Rattle.whips_steps.specs.Steps.{home}
-use Rattle.whips_view.specs.ViewDefs.{keyed}
-use Rattle.whips_facts.specs.Scripts.{Script, value_at, view_at}
+use Rattle.whips_facts.specs.Scripts.{Script, slotted_views, value_at, view_at}
 use Rattle.whips_facts.specs.ScriptFacts.{facts_of}
 
 -- ---- valid scripts
@@ -33,7 +32,7 @@ pub record IsValidScript (s : Script) : Type 0 where
   pub tables : AreSoundTables s.setup.initial
   pub valid : AllByRecursion (AreAllValid s.setup.initial) s.work
   pub apart : (y z : ℕ) (ts us : List Updates) (r : ℕ) → slice_get s.work y ≡ Some ts → slice_get s.work z ≡ Some us → Changes ts r → Changes us r → y ≡ z
-  pub views : AllByRecursion (λ v. IsKeyedView (keyed v)) s.setup.views
+  pub views : AllByRecursion (λ v. IsKeyedView v.view) (slotted_views s)
   pub sources : AreAtSources s
   pub homes : (x i r z : ℕ) → slice_get (view_at s x).base.relations i ≡ Some r → slice_get (view_at s x).base.homes i ≡ Some z
       → (y : ℕ) (ts : List Updates) → slice_get s.work y ≡ Some ts → Changes ts r → y ≡ z

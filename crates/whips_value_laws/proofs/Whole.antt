@@ -1,7 +1,7 @@
 -- The last cut of a run has everything of each view.
 use Rattle.std.proofs.Common.{◌≡◌, ℕ, zero, suc, ◌-◌, ◌<◌, ◌≤◌, false, List, [], ◌∷◌, length, drop, Some, None, slice_get, slice_index, refl, sym, ap, subst, ◌∙◌, arith, ⊎_elim}
 use Rattle.std.specs.Prelude.{map}
-use Rattle.std.specs.Option.{option_and_then, option_map, unwrap_or}
+use Rattle.std.specs.Option.{option_and_then, unwrap_or}
 use Rattle.std.specs.List.{AllByRecursion}
 use Rattle.std.proofs.lemmas.Bool.{cases_lt}
 use Rattle.std.proofs.lemmas.List.{length-map}
@@ -14,10 +14,8 @@ use Rattle.whips_cut_laws.proofs.Orderly.{after_kept, start_orderly}
 use Rattle.whips_lists.proofs.ByPlace.{get_within}
 use Rattle.whips_settled_laws.proofs.Ends.{nothing_left, after_sound, start_sound}
 use Rattle.whips_settled_laws.proofs.Complete.{complete}
-use Rattle.whips_facts.specs.Scripts.{Script, value_at, view_at, no_view, transaction_at}
-use Rattle.whips_lists.proofs.Lists.{length_map_at}
-use Rattle.whips_view.specs.ViewDefs.{View, keyed}
-use Rattle.whips_facts.specs.ScriptFacts.{facts_of, slots_at}
+use Rattle.whips_facts.specs.Scripts.{Script, SlottedView, slotted_views, value_at, view_at, no_view, transaction_at}
+use Rattle.whips_facts.specs.ScriptFacts.{facts_of}
 use Rattle.whips_facts.specs.Values.{Changes, LastCutHasAll}
 use Rattle.whips_facts_laws.proofs.Premises.{asks_there}
 use Rattle.whips_value_laws.proofs.Tails.{AreApart, TailsUnconcerned, tails_keep}
@@ -59,9 +57,9 @@ past_the_end (x ∷ xs) zero le = absurd (omega (arith, le))
 past_the_end (x ∷ xs) (suc i) le = past_the_end xs i (omega (arith, le))
 
 pub has_all : LastCutHasAll
-has_all s valid es x none = ⊎_elim here past (cases_lt x (length s.setup.views))
+has_all s valid es x none = ⊎_elim here past (cases_lt x (length (slotted_views s)))
   where
-    here : x < length s.setup.views → value_at s (view_at s x) (after (facts_of s) (start (facts_of s)) es).writer.cut ≡ value_at s (view_at s x) (map length s.work)
+    here : x < length (slotted_views s) → value_at s (view_at s x) (after (facts_of s) (start (facts_of s)) es).writer.cut ≡ value_at s (view_at s x) (map length s.work)
     here lt =
         let f = facts_of s in
         let p = after f (start f) es in
@@ -72,10 +70,10 @@ has_all s valid es x none = ⊎_elim here past (cases_lt x (length s.setup.views
         tails_keep (view_at s x).base s.setup.initial s.work p.writer.cut valid.tables (apart_from s.work valid.apart) valid.valid
         (tails_from (view_at s x).base s.work p.writer.cut long (λ y ts j t a le e.
         subst (λ u. concerns (view_at s x).base u ≡ false) (transaction_there s y j ts t a e)
-        (complete f es (asks_there s valid.sources) none y (suc j) x (omega (arith, le)) (omega (arith, index_of_lengths s.work y ts a, get_within j ts t e)) (omega (arith, lt, length_map_at (λ x (v : View). slots_at s x) 0 s.setup.views)))))
+        (complete f es (asks_there s valid.sources) none y (suc j) x (omega (arith, le)) (omega (arith, index_of_lengths s.work y ts a, get_within j ts t e)) (omega (arith, lt, length-map (slotted_views s) (λ (v : SlottedView). v.slots))))))
 
     -- no view: a row of no columns, whatever the relations
-    past : length s.setup.views ≤ x → value_at s (view_at s x) (after (facts_of s) (start (facts_of s)) es).writer.cut ≡ value_at s (view_at s x) (map length s.work)
+    past : length (slotted_views s) ≤ x → value_at s (view_at s x) (after (facts_of s) (start (facts_of s)) es).writer.cut ≡ value_at s (view_at s x) (map length s.work)
     past le =
-        let gone = ap (λ o. unwrap_or (option_map keyed o) no_view) (past_the_end s.setup.views x le) in
+        let gone = ap (λ o. unwrap_or (option_and_then (λ v. Some v.view) o) no_view) (past_the_end (slotted_views s) x le) in
         subst (λ v. value_at s v (after (facts_of s) (start (facts_of s)) es).writer.cut ≡ value_at s v (map length s.work)) (sym gone) refl

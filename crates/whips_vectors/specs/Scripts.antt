@@ -7,8 +7,8 @@ use Rattle.whips_model.specs.Relation.{Table}
 use Rattle.whips_model.specs.Views.{ViewData}
 use Rattle.whips_rel.specs.declared.update.Update.{Update}
 use Rattle.whips_states.specs.States.{Updates}
-use Rattle.whips_view.specs.ViewDefs.{view_of, keyed}
-use Rattle.whips_facts.specs.Scripts.{Script, value_at}
+use Rattle.whips_view.specs.ViewDefs.{view_of}
+use Rattle.whips_facts.specs.Scripts.{Script, slotted_views, value_at}
 use Rattle.whips_flow.specs.declared.event.Event.{Event}
 use Rattle.whips_flow.specs.declared.event.Event.TheVariants.{Commit, Answer, Integrate, Manage, Rel, Act}
 
@@ -78,7 +78,7 @@ two_sources slots r s first second = script_of (two_pieces slots r s first secon
 
 -- the rows of each view at a cut
 abbrev pub rows_at : Script → List ℕ → List (List Codes)
-rows_at s cut = map (λ v. value_at s (keyed v) cut) s.setup.views
+rows_at s cut = map (λ v. value_at s v.view cut) (slotted_views s)
 
 -- a transaction of source 1 goes all the way to the table, with a query to source 0
 abbrev pub whole_way : List Event
