@@ -32,7 +32,9 @@ pub(crate) fn first_views(alloc: Global, setup: &Setup) -> Result<Vec<PlainView>
     let _sound = setup.sources();
     let mut views = Vec::new(alloc);
     for x in 0..setup.views() {
-        let rows = setup.view(x).value(&db)?;
+        let made = setup.view(x);
+        let _well = made.parts();
+        let rows = made.value(&db)?;
         views.push(PlainView::make(alloc, rows, setup.slots(x) as usize)?)?;
     }
     Ok(views)

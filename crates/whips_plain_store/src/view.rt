@@ -5,7 +5,7 @@ ghost use Rattle.whips_vnl.specs.Records.{steps_after, visible, shown_of, IsBelo
 ghost use Rattle.whips_changes.specs.Changes.{need};
 ghost use Rattle.whips_store.specs.Versions.{versions_in_use, rows_at};
 ghost use Rattle.whips_store.specs.Stores.{with_seen};
-ghost use Rattle.whips_store.specs.Calls.{AreNetChanges, slots_needed};
+ghost use Rattle.whips_store.specs.Calls.{AreNetChanges, AreRowsWithin, slots_needed};
 ghost use Rattle.whips_store.specs.First.{first_steps, first_records, first_view};
 ghost use Rattle.whips_store.specs.Sound.{HaveWidth, IsSoundView};
 ghost use Rattle.whips_slot_index.specs.Slots.{all_steps};
@@ -156,11 +156,12 @@ fn first_slots(
 
 impl PlainView {
     /// The view at version 0, with these rows in the first slots, in the order of their keys. It is
-    /// sound in a store.
+    /// sound in a store where no number is above the greatest.
     pub fn make(alloc: Global, rows: Rows, slots: usize) -> Result<PlainView, NoMemory>
         requires { length rows.rows ≤ slots }
         ensures made { IfOk result (λ v. v ≡ first_view rows.columns rows.rows (slots - length rows.rows)) }
-        ensures sound { IfOk result (λ v. (n : ℕ) → 2 ≤ n → IsSoundView n 0 v) }
+        ensures sound { IfOk result (λ v. (n : ℕ) → 2 ≤ n
+            → AreRowsWithin rows.columns.kinds rows.rows → IsSoundView n 0 v) }
     {
         let _sound = rows.schema();
         let spare = slots - rows.len();

@@ -116,7 +116,7 @@ module _ (n : ℕ) (two : 2 ≤ n) where
       ]
 
 pub first_is_sound : FirstIsSound
-first_is_sound n columns rows spare two table = record {
+first_is_sound n columns rows spare two table within = record {
   current = table;
   new = table;
   records = first_slots n two columns rows spare;
@@ -132,5 +132,7 @@ first_is_sound n columns rows spare two table = record {
       let values = reverse (map (λ w. rows_at n w (first_records rows spare)) (versions_in_use n 0) ++ rows ∷ []) in
       let fewer = not_more columns.key (union_rows columns.key values) rows (keyed_all columns.key values [] tt) (among n two columns.key rows spare table.keyed) in
       omega (arith, fewer, enough n two rows spare);
+  numbers = within;
+  new_numbers = within;
   quiet = λ e. refl;
 }

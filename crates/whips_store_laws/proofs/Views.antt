@@ -92,6 +92,8 @@ view_changed n phase v change others two h e =
           left = ap (λ rows. net_changes v.columns.key rows v.next) (next_after v.columns.key n (phase / 2) phase v.records v.next slots change i s net.later next)
               ∙ go v.columns.key (puts v.columns.key [] (rows_at n (suc (phase / 2)) v.records)) v.next change others (keyed_puts v.columns.key (rows_at n (suc (phase / 2)) v.records) [] tt) h.new.keyed (h.left ∙ e);
           room = let r = h.room in omega (arith, need_stays v.columns.key n (phase / 2) phase v.records v.next slots change i s net.later next, length-set v.records i (steps_after n (suc (phase / 2)) change (at v.records i)));
+          numbers = h.numbers;
+          new_numbers = h.new_numbers;
           quiet = λ even. absurd (odd even);
         }
 
@@ -139,6 +141,8 @@ view_begun n phase v after changes even h table net room =
       left = subst (λ c. net_changes v.columns.key (puts v.columns.key [] (rows_at n (suc c) v.records)) after ≡ changes) same
           (ap (λ rows. net_changes v.columns.key rows after) (ap (λ rows. puts v.columns.key [] rows) (next_same n phase (phase / 2) v.records low h.records) ∙ h.committed) ∙ sym net.net);
       room = subst (λ c. slots_needed n c v after ≤ length v.records) same room;
+      numbers = h.numbers;
+      new_numbers = net.numbers;
       quiet = λ e. absurd (omega arith);
     }
 
@@ -237,6 +241,8 @@ module _ (n phase : ℕ) (v : ViewState) (two : 2 ≤ n) (odd : phase % 2 ≡ 1)
         left = subst (λ c. net_changes v.columns.key (puts v.columns.key [] (rows_at n (suc c) v.records)) v.next ≡ v.left) half
             (ap (λ rows. net_changes v.columns.key (puts v.columns.key [] rows) v.next) (next_same n phase (suc (phase / 2)) v.records (omega arith) h.records) ∙ h.left);
         room = subst (λ c. slots_needed n c v v.next ≤ length v.records) half needed_still;
+        numbers = h.new_numbers;
+        new_numbers = h.new_numbers;
         quiet = λ e. none;
       }
 

@@ -1,6 +1,8 @@
 //! The checks of a view's making, each with its refusal.
-ghost use Rattle.std.specs.Prelude.{◌≡◌, ◌<◌, ◌+◌, ◌^◌, true, false, length, map, is_some, None, Some, IfErr, OnOk};
+ghost use Rattle.std.specs.Prelude.{◌≡◌, ◌<◌, ◌+◌, ◌^◌, true, false, length, map, is_some, Option, None, Some, IfErr, OnOk};
 ghost use Rattle.std.specs.List.{list_any, list_all};
+ghost use Rattle.std.specs.Option.{option_or};
+ghost use Rattle.whips_view.specs.declared.error.ViewErr.{ViewErr};
 ghost use Rattle.whips_view.specs.ViewDefs.{kind_of, is_within};
 ghost use Rattle.whips_view.specs.Refusals.{limit_refusal, relation_refusal, twice_refusal, column_refusal, equality_columns, has_kind, joins_one_kind, tests_own_kind, is_column, key_refusal_at, key_refusal};
 
@@ -68,6 +70,20 @@ pub fn check_once(relations: &[u32]) -> Result<(), ViewErr>
             check_once(relations)
         }
     }
+}
+
+/// That each list has as many elements as it may, and that each relation has a schema and stands once.
+pub fn check_lists(schemas: &[Schema], parts: &ViewParts) -> Result<(), ViewErr>
+    ensures limits { OnOk result (limit_refusal parts.now ≡ None) }
+    ensures relations { OnOk result (relation_refusal (length schemas.now) parts.now.relations ≡ None) }
+    ensures once { OnOk result (twice_refusal parts.now.relations ≡ None) }
+    ensures refused { IfErr result (λ e. (rest : Option ViewErr) → option_or (limit_refusal parts.now)
+        (option_or (relation_refusal (length schemas.now) parts.now.relations)
+        (option_or (twice_refusal parts.now.relations) rest)) ≡ Some e) }
+{
+    check_limits(parts)?;
+    check_relations(schemas, parts.relations())?;
+    check_once(parts.relations())
 }
 
 /// The kind of the column, where it is there.

@@ -7,7 +7,6 @@ ghost use Rattle.whips_states.specs.Net.{left_by, found_by, deleted, given_at, t
 ghost use Rattle.whips_view.specs.ViewDefs.{keyed};
 
 use crate::ViewDef;
-use crate::concern::code_in;
 use std::alloc::Global;
 use whips_rel::{NoMemory, Schema, Trans, Tuple, Update};
 
@@ -165,7 +164,7 @@ fn codes_at(alloc: Global, columns: &[u32], tuple: &Tuple) -> Result<Tuple, NoMe
 {
     let mut codes = Vec::new(alloc);
     for column in columns {
-        codes.push(code_in(tuple, *column))?;
+        codes.push(tuple.code_in(*column))?;
     }
     Tuple::of(codes)
 }

@@ -8,8 +8,8 @@ ghost use Rattle.whips_model.specs.Relation.{value_of};
 ghost use Rattle.whips_view.specs.Refusals.{relation_refusal, refusal_in, refusal_of, limit_refusal, twice_refusal};
 
 use crate::checks::{
-    check_conds, check_equal, check_keys, check_limits, check_once, check_out, check_relations,
-    join_one_kind, kind_at, test_own_kind,
+    check_conds, check_equal, check_keys, check_lists, check_out, join_one_kind, kind_at,
+    test_own_kind,
 };
 use crate::{Db, ViewErr, ViewParts};
 use std::alloc::Global;
@@ -46,9 +46,7 @@ impl ViewDef {
         ensures made { IfOk result (λ v. (v ≡ view_of schemas.now.items parts) × (refusal_of schemas.now.items parts ≡ None)) }
         ensures refused { IfErr result (λ e. e ≢ ViewErr.NoMemory → refusal_of schemas.now.items parts ≡ Some e) }
     {
-        check_limits(&parts)?;
-        check_relations(schemas, parts.relations())?;
-        check_once(parts.relations())?;
+        check_lists(schemas, &parts)?;
         let bases = bases_of(alloc, schemas, parts.relations())?;
         ViewDef::over(alloc, bases, parts)
     }
