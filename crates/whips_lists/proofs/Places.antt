@@ -1,5 +1,5 @@
 -- Places in turn.
-use Rattle.std.proofs.Common.{◌≡◌, ℕ, zero, suc, ◌+◌, ◌<◌, ◌≤◌, List, [], ◌∷◌, ◌++◌, length, refl, sym, ap, subst, ◌∙◌, ◌⊎◌, inl, inr, arith, ⊎_elim}
+use Rattle.std.proofs.Common.{◌≡◌, ℕ, zero, suc, ◌+◌, ◌<◌, ◌≤◌, List, [], ◌∷◌, ◌++◌, length, map, get_or, refl, sym, ap, subst, ◌∙◌, ◌⊎◌, inl, inr, arith, ⊎_elim}
 use Rattle.std.proofs.lemmas.Bool.{cases_lt}
 use Rattle.whips_lists.specs.Lists.{places_from}
 use Rattle.whips_lists.specs.Members.{Has, AreDistinct}
@@ -41,3 +41,9 @@ below_is n j h = let w = places_within 0 n j h in omega (arith, w.1)
 
 pub is_below : (n j : ℕ) → j < n → Has j (places_from 0 n)
 is_below n j lt = has_place 0 n j (omega arith) (omega arith)
+
+-- what stands at a place among the values of places in turn
+pub mapped_at : {A : Type 0} (f : ℕ → A) (n k i : ℕ) (d : A) → i < n → get_or (map f (places_from k n)) i d ≡ f (k + i)
+mapped_at f zero k i d lt = absurd (omega arith)
+mapped_at f (suc n) k zero d lt = let e : k ≡ k + 0 = omega arith in ap f e
+mapped_at f (suc n) k (suc i) d lt = let e : suc k + i ≡ k + suc i = omega arith in mapped_at f n (suc k) i d (omega arith) ∙ ap f e

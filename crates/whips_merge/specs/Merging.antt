@@ -65,6 +65,10 @@ with_transaction s rows = record s { lists = lists_left rows s.lists; cut = cut_
 abbrev pub with_merge : Merge → MergeState → MergeState
 with_merge m s = fold with_transaction (record s { merge = m }) (drop (length s.merge.row_sets) m.row_sets)
 
+-- The merge once each list whose rows have come is painted, and each row set that is ready then has become a transaction.
+abbrev pub with_settled : MergeState → MergeState
+with_settled s = with_merge (settled_merge s.merge) s
+
 -- ---- the calls
 
 -- The row of a transaction that is announced: white for the concerned views, black for the others.

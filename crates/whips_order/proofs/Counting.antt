@@ -3,7 +3,7 @@ use Rattle.std.proofs.Common.{◌≡◌, Result, Ok, Err, IfOk, OnOk, ◌≢◌,
 use Rattle.std.specs.Prelude.{replicate}
 use Rattle.std.proofs.lemmas.List.Elements.{filter-append}
 use Rattle.whips_lists.specs.Lists.{places_from}
-use Rattle.whips_lists.proofs.Places.{places_next}
+use Rattle.whips_lists.proofs.Places.{places_next, mapped_at}
 use Rattle.whips_flow.specs.State.{NumberedTransaction, count_of_source}
 use Rattle.whips_states.specs.States.{Updates}
 use Rattle.whips_states.specs.Concerns.{concerns}
@@ -21,11 +21,6 @@ passing_more p n = ap (λ i. filter p (places_from 0 i)) (add-one n) ∙ ap (fil
 pub no_counts : (n k : ℕ) → replicate n 0 ≡ map (count_of_source []) (places_from k n)
 no_counts zero k = refl
 no_counts (suc n) k = ap (λ l. 0 ∷ l) (no_counts n (suc k))
-
-mapped_at : (f : ℕ → ℕ) (n k i d : ℕ) → i < n → get_or (map f (places_from k n)) i d ≡ f (k + i)
-mapped_at f zero k i d lt = absurd (omega arith)
-mapped_at f (suc n) k zero d lt = let same : k ≡ k + 0 = omega arith in ap f same
-mapped_at f (suc n) k (suc i) d lt = let same : suc k + i ≡ k + suc i = omega arith in mapped_at f n (suc k) i d (omega arith) ∙ ap f same
 
 pub count_at : (numbering : List NumberedTransaction) (sources y : ℕ) → y < sources → get_or (map (count_of_source numbering) (places_from 0 sources)) y 0 ≡ count_of_source numbering y
 count_at numbering sources y lt = let same : 0 + y ≡ y = omega arith in mapped_at (count_of_source numbering) sources 0 y 0 lt ∙ ap (count_of_source numbering) same

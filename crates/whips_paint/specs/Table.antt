@@ -10,6 +10,13 @@ pub record ViewTable : Type 0 where
   pub views : ℕ
   pub table : PaintedTable
 
+abbrev pub table_of : ℕ → List Row → ℕ → ViewTable
+table_of views rows last = record { views = views; table = record { rows = rows; last_announced = last } }
+
+-- the table with these rows
+abbrev pub with_rows : ViewTable → List Row → ViewTable
+with_rows t rows = record t { table = record (t.table) { rows = rows } }
+
 -- ---- a new row
 
 -- one entry per view: white where the view is concerned, black elsewhere

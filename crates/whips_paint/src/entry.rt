@@ -100,7 +100,8 @@ pub(crate) fn entries_of(
 
 /// Makes the entry of the view red where it is white.
 pub(crate) fn redden(entries: &mut [Entry], view: u32, upto: u64)
-    ensures { map entry_colour entries.new ≡ changed_at view (reddened_entry upto) (map entry_colour entries.old) }
+    ensures { map entry_colour entries.new
+        ≡ changed_at view (reddened_entry upto) (map entry_colour entries.old) }
 {
     let view = view as usize;
     if view < entries.len() && entries[view].is_white() {

@@ -12,7 +12,7 @@ use Rattle.whips_steps.specs.Steps.{asked_sources}
 use Rattle.whips_lists.specs.Lists.{places_from}
 use Rattle.whips_lists.proofs.Places.{places_next}
 use Rattle.whips_managers.specs.Managers.{Query, ManagerState, with_given, with_put, with_query, with_all_given, put_or_asked, with_pending, with_deletion, with_deletions}
-use Rattle.whips_queries.specs.Names.{IsNamedBelow}
+use Rattle.whips_open_queries.specs.Names.{IsNamedBelow}
 use Rattle.whips_strobe.specs.Parts.{tuples_at}
 
 -- ---- names

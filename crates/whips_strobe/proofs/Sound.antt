@@ -1,4 +1,10 @@
 -- What a manager does keeps its state sound.
+--
+-- `sound_transaction` and `sound_reply`: after a transaction that fits the view, and after a reply that fits the manager, the actions are the view's, no query is of a later transaction than the last one, and each query can be asked. `asks_sound` and `sound_asked`: so all that is asked then is about a step of the view, at its source.
+--
+-- The idea: a new query begins at its first step with seeds of its part, which are keyed and as wide as the part's relation. A query that moves on takes the choices of a reply that fits, and these are filled for the next step and differ in keys. Deletions change pending keys alone.
+--
+-- Four lemmas carry it: `given_widths` and `given_keyed` (what a transaction gives a part), `sound_given` (a query begins, or its rows are put) and `moved_sound` (a query moves on).
 use Rattle.std.proofs.Common.{◌≡◌, ℕ, zero, suc, ◌+◌, ◌<◌, ◌≤◌, Bool, true, false, cond, Option, Some, None, List, [], ◌∷◌, ◌++◌, length, map, drop, refl, sym, ap, subst, ◌∙◌, arith}
 use Rattle.std.specs.Prelude.{slice_get, slice_index, IfSome}
 use Rattle.std.specs.List.{AllByRecursion, flat_map, range_with_len, remove}
@@ -31,7 +37,7 @@ use Rattle.whips_strobe.specs.Outs.{all_sent_by, list_by, IsSentAsk}
 use Rattle.whips_actions.specs.declared.action.ActionList.{ActionList}
 use Rattle.std.specs.Option.{option_map}
 use Rattle.std.proofs.lemmas.Bool.{ltb-true}
-use Rattle.whips_queries.specs.Names.{AreInOrder, place_named}
+use Rattle.whips_open_queries.specs.Names.{AreInOrder, place_named}
 use Rattle.whips_strobe.proofs.Seeds.{seeds_filled, seeds_differ}
 use Rattle.whips_strobe.proofs.Replies.{IsRepliedAt, replied_at, reply_lost, reply_moves, reply_ends, asks_at, asks_lost, all_get}
 
