@@ -6,11 +6,11 @@ use Rattle.whips_model.specs.declared.ColRef.{ColRef}
 use Rattle.whips_model.specs.Tuples.{Codes, Columns, at_columns, has_key, without_key, IsKeyed}
 use Rattle.whips_model.specs.Relation.{Table, IsTable}
 use Rattle.whips_net.specs.Drafts.{DraftData, put_new}
-use Rattle.whips_model.specs.Members.{Has}
+use Rattle.whips_lists.specs.Members.{Has}
 use Rattle.whips_model.proofs.Keyed.{all_at, keyed_filter, widths_filter}
-use Rattle.whips_model.proofs.Members.{has_first, has_later, has_mapped, has_before, has_passing, has_passed}
+use Rattle.whips_lists.proofs.Members.{has_first, has_later, has_mapped, has_before, has_passing, has_passed}
 use Rattle.whips_choices.specs.Edits.{put_missing}
-use Rattle.whips_choices.specs.Places.{place_of, places_from}
+use Rattle.whips_choices.specs.Places.{place_of, key_places_from}
 use Rattle.whips_choices.proofs.Rows.{without_only, without_keeps, same_row, same_rows}
 use Rattle.whips_states.specs.Laws.{without_keys}
 use Rattle.whips_trans_laws.proofs.ByKey.{keys_keyed}
@@ -22,7 +22,7 @@ missing_more cols (y ∷ new) rows zero x lt e = ap (λ z. put_missing cols (z �
 missing_more cols (y ∷ new) rows (suc i) x lt e = missing_more cols new _ i x (omega arith) e
 
 -- the places of a part's key columns
-pub places_is : (out : List ColRef) (bases : List Columns) (p i : ℕ) (b : Columns) → slice_get bases i ≡ Some b → get_or (places_from out p (map (λ b. b.key) bases)) i [] ≡ map (place_of out (p + i)) b.key
+pub places_is : (out : List ColRef) (bases : List Columns) (p i : ℕ) (b : Columns) → slice_get bases i ≡ Some b → get_or (key_places_from out p (map (λ b. b.key) bases)) i [] ≡ map (place_of out (p + i)) b.key
 places_is out [] p i b e = absurd (cc)
 places_is out (c ∷ bases) p zero b e = let same : c ≡ b = cc in let plain : p ≡ p + 0 = omega arith in ap (λ z. map (place_of out p) z.key) same ∙ ap (λ n. map (place_of out n) b.key) plain
 places_is out (c ∷ bases) p (suc i) b e = let more : suc p + i ≡ p + suc i = omega arith in places_is out bases (suc p) i b e ∙ ap (λ n. map (place_of out n) b.key) more

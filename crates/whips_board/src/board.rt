@@ -38,7 +38,8 @@ impl<L: Law> Board<L> {
     /// A board with these words, its pen and a first eye.
     pub fn make(law: L, words: &Vec<u64>) -> Result<(Board<L>, Pen<L>, Eye<L>), NoMemory>
         requires { 0 < vec_len words.now }
-        ensures board { IfOk result (λ made. (made.0.law ≡ law) × (made.0.first ≡ words.now.items)) }
+        ensures board { IfOk result (λ made.
+            (made.0.law ≡ law) × (made.0.first ≡ words.now.items)) }
         ensures pen { IfOk result (λ made. made.1 ≡ record { board = made.0; history = [] }) }
         ensures eye { IfOk result (λ made. made.2 ≡ record { board = made.0; log = [] }) }
     {

@@ -17,7 +17,8 @@ pub fn close<L: Law>(board: Board<L>, pen: Pen<L>, eyes: Vec<Eye<L>>) -> Result<
     requires pen { pen.board ≡ board }
     requires eyes { All (λ eye. eye.board ≡ board) eyes.items }
     ensures words { IfOk result (λ words. words.items ≡ words_after board.first pen.history) }
-    ensures explained { OnOk result (All (λ eye. Explains board.first pen.history eye.log) eyes.items) }
+    ensures explained { OnOk result
+        (All (λ eye. Explains board.first pen.history eye.log) eyes.items) }
     ensures lawful { IsLawful (L.allows board.law) board.first pen.history }
 {
     let mut words = Vec::with_capacity(*eyes.allocator(), board.words.word_count())?;
@@ -55,7 +56,9 @@ fn read_all<L: Law>(board: &Board<L>, token: &mut Token<L>, words: &mut Vec<u64>
     requires empty { words.old.items ≡ [] }
     requires room { length board.now.first ≤ vec_capacity words.old }
     ensures words { words.new.items ≡ words_after board.now.first (history_of token.old.me.0) }
-    ensures explained { All (Explains board.now.first (history_of token.old.me.0)) (logs_of token.old.me.0) }
+    ensures explained { All
+        (Explains board.now.first (history_of token.old.me.0))
+        (logs_of token.old.me.0) }
 {
     for i in 0..board.words.word_count() {
         words.push_reserved(board.words.shared.load::<LoadedAtClose>(token, i));

@@ -31,7 +31,8 @@ impl<L: Law> Model for Pen<L> {
     ghost invariant = { λ pen.
         (pen.token.table_id ≡ pen.board.value.table)
         × (pen.token.me ≡ (PenView (origin_of pen.board.value) (history_of pen.token.me.0) [], []))
-        × IsLawful (L.allows pen.board.value.law) pen.board.value.first (history_of pen.token.me.0) };
+        × IsLawful
+            (L.allows pen.board.value.law) pen.board.value.first (history_of pen.token.me.0) };
 }
 
 impl<L: Law> Pen<L> {
@@ -39,7 +40,8 @@ impl<L: Law> Pen<L> {
     pub fn store(&mut self, board: &Board<L>, i: u32, v: u64)
         requires board { self.old.board ≡ board.now }
         requires place { i < length board.now.first }
-        requires allowed { L.allows board.now.law (words_after board.now.first self.old.history) i v }
+        requires allowed { L.allows
+            board.now.law (words_after board.now.first self.old.history) i v }
         ensures stored { self.new ≡ record self.old { history = self.old.history ++ (i, v) ∷ [] } }
         ensures lawful { IsLawful (L.allows board.now.law) board.now.first self.new.history }
     {

@@ -45,7 +45,13 @@ impl Model for MemSource {
 
     ghost Value = { SourceState };
 
-    ghost view = { λ s. record { left = drop s.at s.bytes.items; max_piece = s.max_piece; fails = s.fails.items; calls = s.calls; faults = s.faults } };
+    ghost view = { λ s. record {
+        left = drop s.at s.bytes.items;
+        max_piece = s.max_piece;
+        fails = s.fails.items;
+        calls = s.calls;
+        faults = s.faults
+    } };
 
     ghost invariant = { λ s. (s.at ≤ length s.bytes.items) × (0 < s.max_piece) };
 }
@@ -55,7 +61,13 @@ impl MemSource {
     /// numbers, from 1, are in `fails` fail.
     pub fn new(bytes: Vec<u8>, max_piece: usize, fails: Vec<u64>) -> MemSource
         requires { 0 < max_piece }
-        ensures { result ≡ record { left = bytes.items; max_piece = max_piece; fails = fails.items; calls = 0; faults = 0 } }
+        ensures { result ≡ record {
+            left = bytes.items;
+            max_piece = max_piece;
+            fails = fails.items;
+            calls = 0;
+            faults = 0
+        } }
     {
         MemSource {
             bytes,
@@ -83,10 +95,17 @@ impl Source for MemSource {
 
         // What exactly the call does.
         ensures failed { IsErr result ↔ Contains self.old.fails (self.old.calls + 1) }
-        ensures piece { IfOk result (λ n. n ≡ min (length buf.old) (min self.old.max_piece (length self.old.left))) }
+        ensures piece { IfOk result (λ n.
+            n ≡ min (length buf.old) (min self.old.max_piece (length self.old.left))) }
         ensures buf { IfOk result (λ n. buf.new ≡ take n self.old.left ++ drop n buf.old) }
-        ensures ok { IfOk result (λ n. self.new ≡ record self.old { left = drop n self.old.left; calls = next_count self.old.calls }) }
-        ensures err { OnErr result (self.new ≡ record self.old { calls = next_count self.old.calls; faults = next_count self.old.faults }) }
+        ensures ok { IfOk result (λ n. self.new ≡ record self.old {
+            left = drop n self.old.left;
+            calls = next_count self.old.calls
+        }) }
+        ensures err { OnErr result (self.new ≡ record self.old {
+            calls = next_count self.old.calls;
+            faults = next_count self.old.faults
+        }) }
     {
         let fails = is_next_among(&self.fails, self.calls);
         self.calls = count_one(self.calls);
@@ -119,7 +138,13 @@ impl Model for MemSink {
 
     ghost Value = { SinkState };
 
-    ghost view = { λ s. record { written = s.bytes.items; max_piece = s.max_piece; fails = s.fails.items; calls = s.calls; faults = s.faults } };
+    ghost view = { λ s. record {
+        written = s.bytes.items;
+        max_piece = s.max_piece;
+        fails = s.fails.items;
+        calls = s.calls;
+        faults = s.faults
+    } };
 
     ghost invariant = { λ s. (1048576 ≤ vec_capacity s.bytes) × (0 < s.max_piece) };
 }
@@ -130,7 +155,13 @@ impl MemSink {
     /// into the room.
     pub fn new(alloc: Global, max_piece: usize, fails: Vec<u64>) -> Result<MemSink, NoMemory>
         requires { 0 < max_piece }
-        ensures { IfOk result (λ sink. sink ≡ record { written = []; max_piece = max_piece; fails = fails.items; calls = 0; faults = 0 }) }
+        ensures { IfOk result (λ sink. sink ≡ record {
+            written = [];
+            max_piece = max_piece;
+            fails = fails.items;
+            calls = 0;
+            faults = 0
+        }) }
     {
         let bytes = Vec::with_capacity(alloc, SINK_ROOM)?;
         Ok(MemSink {
@@ -171,7 +202,8 @@ impl Sink for MemSink {
     fn write(&mut self, piece: &[u8]) -> Result<usize, Failed>
         ensures bound { IfOk result (λ n. n ≤ length piece.now) }
         ensures some { IfOk result (λ n. 0 < length piece.now → 0 < n) }
-        ensures bytes { WriteAppends (Some self.old.written) (Some self.new.written) result piece.now }
+        ensures bytes { WriteAppends
+            (Some self.old.written) (Some self.new.written) result piece.now }
         ensures cause { FailsByFault self.old.faults self.new.faults result }
         ensures counted { self.new.calls ≡ next_count self.old.calls }
 
@@ -179,8 +211,14 @@ impl Sink for MemSink {
         ensures failed { IsErr result ↔ (Contains self.old.fails (self.old.calls + 1)
             ⊎ (SINK_ROOM < length self.old.written + min (length piece.now) self.old.max_piece)) }
         ensures piece { IfOk result (λ n. n ≡ min (length piece.now) self.old.max_piece) }
-        ensures ok { IfOk result (λ n. self.new ≡ record self.old { written = self.old.written ++ take n piece.now; calls = next_count self.old.calls }) }
-        ensures err { OnErr result (self.new ≡ record self.old { calls = next_count self.old.calls; faults = next_count self.old.faults }) }
+        ensures ok { IfOk result (λ n. self.new ≡ record self.old {
+            written = self.old.written ++ take n piece.now;
+            calls = next_count self.old.calls
+        }) }
+        ensures err { OnErr result (self.new ≡ record self.old {
+            calls = next_count self.old.calls;
+            faults = next_count self.old.faults
+        }) }
     {
         let n = piece.len().min(self.max_piece);
         let fails = self.is_failing(n);

@@ -30,7 +30,11 @@ impl<R: Read + Drop> Model for StdSource<R> {
 
     ghost Value = { StreamState };
 
-    ghost view = { λ s. record { known = R.remaining s.reader; calls = s.calls; faults = s.faults } };
+    ghost view = { λ s. record {
+        known = R.remaining s.reader;
+        calls = s.calls;
+        faults = s.faults
+    } };
 }
 
 impl<R: Read + Drop> StdSource<R> {
@@ -58,7 +62,8 @@ impl<R: Read + Drop> Source for StdSource<R> {
         ensures bytes { ReadConsumes self.old.known self.new.known result buf.new }
         ensures cause { FailsByFault self.old.faults self.new.faults result }
         ensures counted { self.new.calls ≡ next_count self.old.calls }
-        ensures faults { self.new.faults ≡ (if is_ok result then self.old.faults else next_count self.old.faults) }
+        ensures faults { self.new.faults
+            ≡ (if is_ok result then self.old.faults else next_count self.old.faults) }
     {
         self.calls = count_one(self.calls);
         match self.reader.read(buf) {
@@ -88,7 +93,11 @@ impl<W: Write + Drop> Model for StdSink<W> {
 
     ghost Value = { StreamState };
 
-    ghost view = { λ s. record { known = W.contents s.writer; calls = s.calls; faults = s.faults } };
+    ghost view = { λ s. record {
+        known = W.contents s.writer;
+        calls = s.calls;
+        faults = s.faults
+    } };
 }
 
 impl<W: Write + Drop> StdSink<W> {
@@ -117,7 +126,8 @@ impl<W: Write + Drop> Sink for StdSink<W> {
         ensures bytes { WriteAppends self.old.known self.new.known result piece.now }
         ensures cause { FailsByFault self.old.faults self.new.faults result }
         ensures counted { self.new.calls ≡ next_count self.old.calls }
-        ensures faults { self.new.faults ≡ (if is_ok result then self.old.faults else next_count self.old.faults) }
+        ensures faults { self.new.faults
+            ≡ (if is_ok result then self.old.faults else next_count self.old.faults) }
     {
         self.calls = count_one(self.calls);
         match self.writer.write(piece) {

@@ -32,10 +32,13 @@ pub struct WriteFault;
 pub fn read_all<I: Source>(alloc: Global, input: &mut I, limit: usize) -> Result<Vec<u8>, ReadErr>
     ensures ok { IfOk result (λ bytes. (length bytes.items ≤ limit)
         × Consumes (I.left input.old) (I.left input.new) bytes.items × IsAtEnd (I.left input.new)) }
-    ensures long { result ≡ Err ReadErr.TooLong → ConsumesExactly (limit + 1) (I.left input.old) (I.left input.new) }
+    ensures long { result ≡ Err ReadErr.TooLong →
+        ConsumesExactly (limit + 1) (I.left input.old) (I.left input.new) }
     ensures fault { result ≡ Err ReadErr.ReadFault →
-        HasRisen (I.faults input.old) (I.faults input.new) × ConsumesAtMost limit (I.left input.old) (I.left input.new) }
-    ensures memory { result ≡ Err ReadErr.NoMemory → ConsumesAtMost (limit + 1) (I.left input.old) (I.left input.new) }
+        HasRisen (I.faults input.old) (I.faults input.new)
+        × ConsumesAtMost limit (I.left input.old) (I.left input.new) }
+    ensures memory { result ≡ Err ReadErr.NoMemory →
+        ConsumesAtMost (limit + 1) (I.left input.old) (I.left input.new) }
     ensures kept { I.faults input.old ≤ I.faults input.new }
     ensures counted { I.calls input.new ≤ I.calls input.old + (limit + 1) }
 {
@@ -54,11 +57,14 @@ pub fn read_all<I: Source>(alloc: Global, input: &mut I, limit: usize) -> Result
 fn read_piece<I: Source>(input: &mut I, bytes: &mut Vec<u8>, room: usize) -> Result<usize, ReadErr>
     requires { 0 < room }
     ensures ok { IfOk result (λ n. (n ≤ room) × ((piece : List ℕ) × (length piece ≡ n)
-        × (bytes.new.items ≡ bytes.old.items ++ piece) × Consumes (I.left input.old) (I.left input.new) piece)) }
+        × (bytes.new.items ≡ bytes.old.items ++ piece)
+        × Consumes (I.left input.old) (I.left input.new) piece)) }
     ensures end { IfOk result (λ n. n ≡ 0 → IsAtEnd (I.left input.new)) }
     ensures fault { result ≡ Err ReadErr.ReadFault →
-        HasRisen (I.faults input.old) (I.faults input.new) × ConsumesAtMost 0 (I.left input.old) (I.left input.new) }
-    ensures memory { result ≡ Err ReadErr.NoMemory → ConsumesAtMost room (I.left input.old) (I.left input.new) }
+        HasRisen (I.faults input.old) (I.faults input.new)
+        × ConsumesAtMost 0 (I.left input.old) (I.left input.new) }
+    ensures memory { result ≡ Err ReadErr.NoMemory →
+        ConsumesAtMost room (I.left input.old) (I.left input.new) }
     ensures long { result ≢ Err ReadErr.TooLong }
     ensures kept { I.faults input.old ≤ I.faults input.new }
     ensures counted { I.calls input.new ≤ I.calls input.old + 1 }

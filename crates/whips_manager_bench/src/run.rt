@@ -31,7 +31,7 @@ fn add_all(asks: &mut Vec<(u32, Ask)>, new: Vec<(u32, Ask)>) -> Result<(), NoMem
 }
 
 /// The manager takes the transaction, and what it asks goes to the other asks. No list may leave.
-fn take(
+fn take_transaction(
     manager: &mut Manager,
     view: &ViewDef,
     number: u64,
@@ -70,7 +70,7 @@ fn take_all(
 {
     let mut asks = Vec::new(alloc);
     for i in 0..n {
-        take(manager, view, i + 1, &transaction(alloc, i, n)?, &mut asks)?;
+        take_transaction(manager, view, i + 1, &transaction(alloc, i, n)?, &mut asks)?;
     }
     Ok(asks)
 }

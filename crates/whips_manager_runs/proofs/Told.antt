@@ -10,7 +10,8 @@ use Rattle.whips_choices.proofs.Parts.{seed_other}
 use Rattle.whips_states.specs.States.{Updates}
 use Rattle.whips_view.specs.ViewDefs.{View, keyed}
 use Rattle.whips_managers.specs.Managers.{Query, ManagerState, with_step, with_answer, has_next, is_named, with_reply_to, with_reply_behind, with_reply, with_transaction}
-use Rattle.whips_managers.specs.Messages.{widths_of, HaveWidths}
+use Rattle.whips_view.specs.Widths.{widths_of}
+use Rattle.whips_managers.specs.Messages.{HaveWidths}
 use Rattle.whips_ask_laws.proofs.After.{after_transaction}
 use Rattle.whips_manager_runs.specs.Runs.{pair, IsOfPairs, ArePairs}
 

@@ -8,9 +8,9 @@ use Rattle.whips_rel.specs.declared.update.Update.{Update}
 use Rattle.whips_rel.specs.Updates.{relation_of, tuple_of}
 use Rattle.whips_states.specs.States.{Updates}
 use Rattle.whips_states.specs.Net.{relation_at}
-use Rattle.whips_steps.specs.Steps.{asked_sources, source_of_step, is_filled}
+use Rattle.whips_steps.specs.Steps.{asked_sources, source_of_step}
 use Rattle.whips_steps.specs.Answers.{AllDifferInKey}
-use Rattle.whips_view.specs.ViewDefs.{View}
+use Rattle.whips_steps.specs.Filled.{IsFilledBefore}
 use Rattle.whips_managers.specs.Managers.{Query, ManagerState, is_named, has_next, moved_on}
 
 -- An ask: the source that is asked, the query by its transaction and origin, its step, and what was found before this step.
@@ -42,12 +42,6 @@ asks_after v (q ∷ queries) transaction origin partials = cond (is_named transa
 abbrev pub is_open : ManagerState → ℕ → ℕ → ℕ → Bool
 is_open m transaction origin step = list_any (λ q. is_named transaction origin q && (q.step == step)) m.queries
 
--- The partial choice is filled exactly at the origin and at the parts of the steps before this one, by tuples of their relations' widths.
-pub record IsFilledBefore (v : KeyedView) (widths : List ℕ) (origin step : ℕ) (p : Partial) : Type 0 where
-  pub parts : length p ≡ length v.keys
-  pub filled : (part : ℕ) → part < length v.keys → is_some (slice_index_or p part None) ≡ is_filled v origin step part
-  pub tuples : (part : ℕ) (t : Codes) → slice_index_or p part None ≡ Some t → length t ≡ slice_index widths part
-
 -- The query can be asked: it began at a part of the view and is at one of the steps of that part; each of its partial choices is filled exactly at the origin and at the parts of the steps before, by tuples of their relations' widths; and any two of them differ in the key of a filled part.
 pub record CanAsk (v : KeyedView) (widths : List ℕ) (q : Query) : Type 0 where
   pub origin : q.origin < length v.keys
@@ -59,10 +53,6 @@ pub record CanAsk (v : KeyedView) (widths : List ℕ) (q : Query) : Type 0 where
 -- Each of these queries can be asked.
 abbrev pub AllCanAsk : KeyedView → List ℕ → List Query → Type 0
 AllCanAsk v widths queries = AllByRecursion (CanAsk v widths) queries
-
--- The width of each of the view's relations.
-abbrev pub widths_of : View → List ℕ
-widths_of view = map (λ b. length b.kinds) view.bases
 
 -- An update of one of the view's relations has a tuple of its width.
 abbrev pub HasWidth : KeyedView → List ℕ → Update → Type 0

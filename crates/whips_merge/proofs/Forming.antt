@@ -1,9 +1,15 @@
 -- Row sets that become transactions, one after another.
+--
+-- `settled_said`: the table painted, the row sets taken in so many turns as there are rows, and a transaction formed of each make of a merge what the machine's settling makes of it. `settled_still`: where no row was ready and no list was due, nothing leaves.
+--
+-- The idea: the machine takes a row set while one is ready, at most as often as there are rows (`with_ready_taken`). Its turns are two functions of the rows alone, the sets that leave and the rows that stay (`machine_taken`). The code forms each set's transaction as it takes it, so `Forming` says after each turn that what is left of both functions, with what was formed, gives all.
+--
+-- Four lemmas carry it: `machine_taken`, `forming_goes_on` (one turn more), `stopped_formed` (no row is ready) and `settled_is` (the turns together).
 use Rattle.std.proofs.Common.{◌≡◌, ℕ, zero, suc, ◌+◌, ◌-◌, ◌<◌, List, [], ◌∷◌, ◌++◌, length, map, drop, set, get_or, false, Option, Some, None, refl, sym, ap, ap₂, subst, ◌∙◌, arith, append-nil, append_assoc}
 use Rattle.std.specs.Prelude.{fold}
 use Rattle.std.proofs.lemmas.List.{map-append}
 use Rattle.std.specs.Option.{option_map}
-use Rattle.whips_flow.specs.Lists.{changed_at}
+use Rattle.whips_lists.specs.Lists.{changed_at}
 use Rattle.whips_flow.specs.Painted.{Row, rows_with, rows_without, closure, lowest_ready}
 use Rattle.whips_flow.specs.State.{Merge}
 use Rattle.whips_flow.specs.Settling.{with_set_taken, with_ready_taken, painted_merge, settled_merge, rows_after_lists, later_lists}
@@ -12,7 +18,7 @@ use Rattle.whips_paint.specs.Table.{ready_numbers}
 use Rattle.whips_actions.specs.declared.action.ActionList.{ActionList}
 use Rattle.whips_merge.specs.declared.lists.Transaction.{Transaction}
 use Rattle.whips_merge.specs.Taking.{sets_taken, rows_after_sets, merge_of}
-use Rattle.whips_merge.specs.Merging.{MergeState, lists_left, transaction_of, with_transaction, with_merge, after_act}
+use Rattle.whips_merge.specs.Merging.{MergeState, lists_left, transaction_of, with_transaction, with_merge}
 
 -- ---- turns
 
@@ -164,12 +170,3 @@ pub pushed_at : {X : Type 0} (xs : List (List X)) (i : ℕ) (x : X) (own new : L
 pushed_at [] i x own new lt is e = absurd (omega arith)
 pushed_at (y ∷ ys) zero x own new lt is e = ap (λ l. l ∷ ys) (e ∙ ap (λ l. l ++ x ∷ []) is)
 pushed_at (y ∷ ys) (suc i) x own new lt is e = ap (λ l. y ∷ l) (pushed_at ys i x own new (omega arith) is e)
-
-pub act_settled : (now : MergeState) (list : ActionList) (last : ℕ) (rows0 : List Row) (waiting0 waiting1 : List (List ℕ)) (lists0 lists1 lists2 : List (List ActionList)) (cut0 cut2 : List ℕ) (sets0 : List (List Row)) (ts0 ts2 : List Transaction) (m : Merge)
-    → now ≡ record { merge = merge_of last rows0 waiting0 sets0; lists = lists0; cut = cut0; transactions = ts0; is_stopped = false }
-    → waiting1 ≡ changed_at list.view (λ js. js ++ list.upto ∷ []) waiting0 → lists1 ≡ changed_at list.view (λ ls. ls ++ list ∷ []) lists0
-    → ((s : MergeState) → s.merge.row_sets ≡ sets0 → s.lists ≡ lists1 → s.cut ≡ cut0 → s.transactions ≡ ts0 → with_merge (settled_merge (merge_of last rows0 waiting1 sets0)) s ≡ record s { merge = m; lists = lists2; cut = cut2; transactions = ts2 })
-    → record { merge = m; lists = lists2; cut = cut2; transactions = ts2; is_stopped = false } ≡ after_act list now
-act_settled now list last rows0 waiting0 waiting1 lists0 lists1 lists2 cut0 cut2 sets0 ts0 ts2 m is waiting lists said =
-    let s : MergeState = record { merge = merge_of last rows0 waiting0 sets0; lists = changed_at list.view (λ ls. ls ++ list ∷ []) lists0; cut = cut0; transactions = ts0; is_stopped = false } in
-    sym (ap (after_act list) is ∙ ap (λ q. with_merge (settled_merge (merge_of last rows0 q sets0)) s) (sym waiting) ∙ said s refl (sym lists) refl refl)

@@ -5,13 +5,10 @@ use Rattle.std.proofs.lemmas.List.Elements.{filter-append}
 use Rattle.std.specs.Prelude.{fold}
 use Rattle.std.specs.Option.{option_map}
 use Rattle.std.proofs.Math.Seq.{drop-cons}
-use Rattle.whips_flow.specs.Lists.{changed_at}
+use Rattle.whips_lists.specs.Lists.{changed_at}
 use Rattle.whips_flow.specs.Painted.{Row, painted_rows, rows_with, rows_without}
 use Rattle.whips_flow.specs.Settling.{due_lists, later_lists, rows_after_lists}
-use Rattle.whips_paint.specs.Table.{ViewTable, ready_numbers, ready_rows, rows_left}
-
-abbrev pub with_rows : ViewTable → List Row → ViewTable
-with_rows t rows = record t { table = record (t.table) { rows = rows } }
+use Rattle.whips_paint.specs.Table.{ViewTable, with_rows, ready_numbers, ready_rows, rows_left}
 
 -- ---- lists whose rows have come
 

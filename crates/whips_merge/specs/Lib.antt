@@ -1,2 +1,3 @@
 pub mod Taking
 pub mod Merging
+pub mod Holding

@@ -1,7 +1,7 @@
 -- A merge as its callers see it, and what its calls do.
 use Rattle.std.specs.Prelude.{◌≡◌, ℕ, Bool, true, false, not, List, [], ◌∷◌, ◌++◌, length, drop, map, filter, fold, replicate, slice_get}
 use Rattle.std.specs.List.{list_any, flat_map}
-use Rattle.whips_flow.specs.Lists.{changed_at, without_front}
+use Rattle.whips_lists.specs.Lists.{changed_at, without_front}
 use Rattle.whips_flow.specs.Painted.{Row}
 use Rattle.whips_flow.specs.State.{Merge, new_table}
 use Rattle.whips_flow.specs.Settling.{settled_merge}
@@ -64,6 +64,10 @@ with_transaction s rows = record s { lists = lists_left rows s.lists; cut = cut_
 -- The merge whose part of the machine has become m: each new row set of m has become a transaction, in order.
 abbrev pub with_merge : Merge → MergeState → MergeState
 with_merge m s = fold with_transaction (record s { merge = m }) (drop (length s.merge.row_sets) m.row_sets)
+
+-- The merge once each list whose rows have come is painted, and each row set that is ready then has become a transaction.
+abbrev pub with_settled : MergeState → MergeState
+with_settled s = with_merge (settled_merge s.merge) s
 
 -- ---- the calls
 

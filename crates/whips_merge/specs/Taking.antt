@@ -1,9 +1,8 @@
 -- The row sets that leave a table one after another; for the proofs alone.
-use Rattle.std.specs.Prelude.{◌≡◌, ℕ, ◌≤◌, length, zero, suc, List, [], ◌∷◌, Some, None}
+use Rattle.std.specs.Prelude.{ℕ, zero, suc, List, [], ◌∷◌, Some, None}
 use Rattle.whips_flow.specs.Painted.{Row, rows_with, rows_without}
 use Rattle.whips_flow.specs.State.{Merge}
-use Rattle.whips_paint.specs.Table.{ViewTable, ready_numbers}
-use Rattle.whips_actions.specs.declared.action.ActionList.{ActionList}
+use Rattle.whips_paint.specs.Table.{ready_numbers}
 
 -- the sets that leave in at most n turns, and the rows that stay
 abbrev pub sets_taken : ℕ → List Row → List (List Row)
@@ -23,10 +22,3 @@ rows_after_sets (suc n) rows = elim (ready_numbers rows) [
 -- the merge of the machine, of its parts
 abbrev pub merge_of : ℕ → List Row → List (List ℕ) → List (List Row) → Merge
 merge_of last rows waiting sets = record { table = record { rows = rows; last_announced = last }; waiting_lists = waiting; row_sets = sets }
-
--- the parts of a merge fit each other: there is a queue and a list for each of up to 8 views, and no row is ready
-pub record IsWhole (t : ViewTable) (waiting : List (List ℕ)) (lists : List (List ActionList)) : Type 0 where
-  pub waiting_views : length waiting ≡ t.views
-  pub few : t.views ≤ 8
-  pub list_views : length lists ≡ t.views
-  pub unready : ready_numbers t.table.rows ≡ None

@@ -1,12 +1,11 @@
 //! Row sets become transactions.
-ghost use Rattle.std.specs.Prelude.{◌≡◌, ◌∷◌, [], ◌++◌, ◌<◌, ◌≤◌, cond, not, max, None, List, length, map, filter, fold, IfOk, OnOk, OnErr};
-ghost use Rattle.whips_flow.specs.Lists.{changed_at};
-ghost use Rattle.whips_flow.specs.Painted.{Row};
+ghost use Rattle.std.specs.Prelude.{◌≡◌, ◌∷◌, [], ◌++◌, cond, not, max, List, length, map, filter, fold, IfOk, OnOk, OnErr};
+ghost use Rattle.whips_lists.specs.Lists.{changed_at};
 ghost use Rattle.whips_flow.specs.Cuts.{cut_after};
-ghost use Rattle.whips_flow.specs.Settling.{settled_merge};
-ghost use Rattle.whips_paint.specs.Table.{ready_numbers};
-ghost use Rattle.whips_merge.specs.Taking.{sets_taken, rows_after_sets, merge_of};
-ghost use Rattle.whips_merge.specs.Merging.{MergeState, covers_any, lists_of, lists_left, transaction_of, with_transaction, with_merge};
+ghost use Rattle.whips_paint.specs.Table.{with_rows};
+ghost use Rattle.whips_merge.specs.Taking.{sets_taken, rows_after_sets};
+ghost use Rattle.whips_merge.specs.Merging.{MergeState, covers_any, lists_of, lists_left, transaction_of, with_transaction, with_settled};
+ghost use Rattle.whips_merge.specs.Holding.{rows_of, transactions_of, state_of, IsWhole};
 
 use crate::lists::{ActionLists, Numbers, Queue, Transaction};
 use crate::paint::{paint_all, take_ready};
@@ -24,8 +23,23 @@ pub(crate) struct Waiting {
     pub(crate) transaction: Transaction,
 }
 
-/// Puts the list to one of two lists.
-fn put(
+/// What a merge holds.
+#[derive(Drop)]
+pub(crate) struct Holdings {
+    /// The transactions that were announced and haven't left.
+    pub(crate) table: Table,
+    /// Of each view the numbers of the lists that came before their rows.
+    pub(crate) waiting: Vec<Queue>,
+    /// Of each view the lists whose rows haven't left the table.
+    pub(crate) lists: Vec<ActionLists>,
+    /// The cut after all row sets that have left the table.
+    pub(crate) cut: Vec<u64>,
+    /// The row sets that wait to be handed out.
+    pub(crate) sets: VecDeque<Waiting>,
+}
+
+/// Adds the list to one of two lists.
+fn add_to_one(
     list: ActionList,
     is_taken: bool,
     taken: &mut ActionLists,
@@ -43,7 +57,7 @@ fn put(
 }
 
 /// Whether the list was painted in one of the rows.
-fn have(rows: &[Row], list: &ActionList) -> bool
+fn is_painted_in(rows: &[Row], list: &ActionList) -> bool
     ensures { result ≡ covers_any rows.now list.now }
 {
     rows.iter().any(|row| row.is_red(list.view, list.upto))
@@ -58,9 +72,9 @@ fn take_lists(
     ensures taken { OnOk result (taken.new ≡ taken.old ++ filter (covers_any rows.now) lists.old) }
     ensures left { OnOk result (lists.new ≡ filter (λ l. not (covers_any rows.now l)) lists.old) }
 {
-    for list in lists.take() {
-        let is_taken = have(rows, &list);
-        put(list, is_taken, taken, lists)?;
+    for list in lists.take_all() {
+        let is_taken = is_painted_in(rows, &list);
+        add_to_one(list, is_taken, taken, lists)?;
     }
     Ok(())
 }
@@ -82,7 +96,7 @@ fn take_all_lists(
 }
 
 /// Counts the source up to the place, where it isn't already.
-fn raise(cut: &mut [u64], source: u32, place: u64)
+fn raise_source(cut: &mut [u64], source: u32, place: u64)
     ensures { cut.new ≡ changed_at source (max place) cut.old }
 {
     let at = source as usize;
@@ -91,12 +105,12 @@ fn raise(cut: &mut [u64], source: u32, place: u64)
     }
 }
 
-/// The cut after the rows.
-fn raise_all(cut: &mut [u64], rows: &[Row])
+/// Counts each row's source up to the row's place.
+fn raise_cut(cut: &mut [u64], rows: &[Row])
     ensures { cut.new ≡ cut_after cut.old rows.now }
 {
     for row in rows {
-        raise(cut, row.source(), row.place());
+        raise_source(cut, row.source(), row.place());
     }
 }
 
@@ -112,19 +126,20 @@ fn numbers_of(alloc: Global, rows: &[Row]) -> Result<Numbers, NoMemory>
 }
 
 /// Makes a transaction of the row set.
-fn form(
+fn form_transaction(
     alloc: Global,
     rows: Vec<Row>,
     lists: &mut Vec<ActionLists>,
     cut: &mut Vec<u64>,
 ) -> Result<Waiting, NoMemory>
     ensures rows { IfOk result (λ w. w.rows.items ≡ rows.items) }
-    ensures transaction { IfOk result (λ w. w.transaction ≡ transaction_of rows.items lists.old.items cut.old.items) }
+    ensures transaction { IfOk result (λ w.
+        w.transaction ≡ transaction_of rows.items lists.old.items cut.old.items) }
     ensures lists { OnOk result (lists.new.items ≡ lists_left rows.items lists.old.items) }
     ensures cut { OnOk result (cut.new.items ≡ cut_after cut.old.items rows.items) }
 {
     let taken = take_all_lists(alloc, &rows, lists)?;
-    raise_all(cut, &rows);
+    raise_cut(cut, &rows);
     let transaction = Transaction {
         rows: numbers_of(alloc, &rows)?,
         lists: taken,
@@ -141,10 +156,18 @@ pub(crate) fn form_all(
     lists: &mut Vec<ActionLists>,
     cut: &mut Vec<u64>,
 ) -> Result<VecDeque<Waiting>, NoMemory>
-    ensures table { OnOk result (table.new ≡ record table.old { table = record table.old.table { rows = rows_after_sets turns table.old.table.rows } }) }
-    ensures sets { IfOk result (λ formed. map (λ w. w.rows.items) formed.items ≡ sets_taken turns table.old.table.rows) }
-    ensures formed { IfOk result (λ formed. (s : MergeState) → s.lists ≡ lists.old.items → s.cut ≡ cut.old.items
-        → fold with_transaction s (sets_taken turns table.old.table.rows) ≡ record s { lists = lists.new.items; cut = cut.new.items; transactions = s.transactions ++ map (λ w. w.transaction) formed.items }) }
+    ensures table { OnOk result
+        (table.new ≡ with_rows table.old (rows_after_sets turns table.old.table.rows)) }
+    ensures sets { IfOk result (λ formed.
+        rows_of formed.items ≡ sets_taken turns table.old.table.rows) }
+    ensures formed { IfOk result (λ formed.
+        (s : MergeState) → s.lists ≡ lists.old.items → s.cut ≡ cut.old.items
+        → fold with_transaction s (sets_taken turns table.old.table.rows)
+        ≡ record s {
+          lists = lists.new.items;
+          cut = cut.new.items;
+          transactions = s.transactions ++ transactions_of formed.items;
+        }) }
     ensures lists { OnOk result (length lists.new.items ≡ length lists.old.items) }
 {
     let mut formed = VecDeque::new(alloc);
@@ -153,7 +176,7 @@ pub(crate) fn form_all(
             Some(set) => set,
             None => return Ok(formed),
         };
-        let waiting = form(alloc, set, lists, cut)?;
+        let waiting = form_transaction(alloc, set, lists, cut)?;
         formed.push_back(waiting)?;
     }
     Ok(formed)
@@ -161,31 +184,27 @@ pub(crate) fn form_all(
 
 /// Paints each list whose rows have come, and makes a transaction of each row set that is ready then. Where no list is
 /// painted, no row is ready, as none was before.
-pub(crate) fn settle(
-    alloc: Global,
-    table: &mut Table,
-    waiting: &mut Vec<Queue>,
-    lists: &mut Vec<ActionLists>,
-    cut: &mut Vec<u64>,
-    sets: &mut VecDeque<Waiting>,
-) -> Result<(), NoMemory>
-    requires there { length waiting.old.items ≡ table.old.views }
-    requires few { table.old.views ≤ 8 }
-    requires unready { ready_numbers table.old.table.rows ≡ None }
-    ensures settled { OnOk result ((s : MergeState) → s.merge.row_sets ≡ map (λ w. w.rows.items) sets.old.items → s.lists ≡ lists.old.items → s.cut ≡ cut.old.items → s.transactions ≡ map (λ w. w.transaction) sets.old.items
-        → with_merge (settled_merge (merge_of table.old.table.last_announced table.old.table.rows waiting.old.items (map (λ w. w.rows.items) sets.old.items))) s
-        ≡ record s { merge = merge_of table.old.table.last_announced table.new.table.rows waiting.new.items (map (λ w. w.rows.items) sets.new.items); lists = lists.new.items; cut = cut.new.items; transactions = map (λ w. w.transaction) sets.new.items }) }
-    ensures table { OnOk result (table.new ≡ record table.old { table = record table.old.table { rows = table.new.table.rows } }) }
-    ensures unready { OnOk result (ready_numbers table.new.table.rows ≡ None) }
-    ensures waiting { OnOk result (length waiting.new.items ≡ length waiting.old.items) }
-    ensures lists { OnOk result (length lists.new.items ≡ length lists.old.items) }
-    ensures err { OnErr result (sets.new.items ≡ sets.old.items) }
+pub(crate) fn settle(held: &mut Holdings) -> Result<(), NoMemory>
+    requires { IsWhole held.old }
+    ensures settled { OnOk result (state_of held.new ≡ with_settled (state_of held.old)) }
+    ensures whole { OnOk result (IsWhole held.new) }
+    ensures last { OnOk result
+        (held.new.table.table.last_announced ≡ held.old.table.table.last_announced) }
+    ensures views { OnOk result (held.new.table.views ≡ held.old.table.views) }
+    ensures err { OnErr result (held.new.sets.items ≡ held.old.sets.items) }
 {
-    let turns = table.len();
-    if !paint_all(table, waiting) {
+    let alloc = *held.waiting.allocator();
+    let turns = held.table.len();
+    if !paint_all(&mut held.table, &mut held.waiting) {
         return Ok(());
     }
-    let mut formed = form_all(alloc, turns, table, lists, cut)?;
-    sets.append(&mut formed)?;
+    let mut formed = form_all(
+        alloc,
+        turns,
+        &mut held.table,
+        &mut held.lists,
+        &mut held.cut,
+    )?;
+    held.sets.append(&mut formed)?;
     Ok(())
 }

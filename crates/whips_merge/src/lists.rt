@@ -81,7 +81,7 @@ impl ActionLists {
     }
 
     /// Takes all lists out.
-    pub(crate) fn take(&mut self) -> Vec<ActionList>
+    pub(crate) fn take_all(&mut self) -> Vec<ActionList>
         ensures taken { result.items ≡ self.old }
         ensures empty { self.new ≡ [] }
     {
@@ -137,7 +137,8 @@ impl Queue {
     /// Takes the oldest number out, where it is at most `last`.
     pub(crate) fn pop_due(&mut self, last: u64) -> Option<u64>
         ensures due { IfSome result (λ j. (self.old ≡ j ∷ self.new) × (nat_le j last ≡ true)) }
-        ensures none { IfNone result ((due_lists last self.old ≡ []) × (later_lists last self.old ≡ self.old) × (self.new ≡ self.old)) }
+        ensures none { IfNone result ((due_lists last self.old ≡ [])
+            × (later_lists last self.old ≡ self.old) × (self.new ≡ self.old)) }
     {
         match self.items.front() {
             Some(j) if *j <= last => self.items.pop_front(),

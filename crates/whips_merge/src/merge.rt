@@ -1,12 +1,12 @@
 //! The merge.
 ghost use Rattle.std.specs.Prelude.{◌≡◌, ◌≢◌, ◌<◌, true, None, [], ◌∷◌, ◌++◌, replicate, nat_lt, length, IfOk, OnOk, OnErr, IsErr};
 ghost use Rattle.std.specs.List.{All, AllPairs};
-ghost use Rattle.whips_flow.specs.Lists.{front};
+ghost use Rattle.whips_lists.specs.Lists.{front};
 ghost use Rattle.whips_flow.specs.State.{new_table as empty_table};
 ghost use Rattle.whips_paint.specs.Table.{ready_numbers};
 ghost use Rattle.whips_merge.specs.Merging.{new_merge, announced_row, after_rel, after_act, after_next, IsStoppedAfter};
 
-use crate::form::{Waiting, settle};
+use crate::form::{Holdings, settle};
 use crate::lists::{ActionLists, Queue, Transaction};
 use std::alloc::Global;
 use std::collections::VecDeque;
@@ -20,24 +20,20 @@ use whips_setup::Setup;
 /// set of rows that have to change the views together.
 #[derive(Drop)]
 pub struct Merge {
-    table: Table,
-    waiting: Vec<Queue>,
-    lists: Vec<ActionLists>,
-    cut: Vec<u64>,
-    sets: VecDeque<Waiting>,
+    held: Holdings,
     is_stopped: bool,
 }
 
 impl Model for Merge {
-    ghost use Rattle.std.specs.Prelude.{◌≡◌, false, map};
+    ghost use Rattle.std.specs.Prelude.{◌≡◌, false};
     ghost use Rattle.whips_merge.specs.Merging.{MergeState};
-    ghost use Rattle.whips_merge.specs.Taking.{merge_of, IsWhole};
+    ghost use Rattle.whips_merge.specs.Holding.{state_of, IsWhole};
 
     ghost Value = { MergeState };
 
-    ghost view = { λ m. record { merge = merge_of m.table.table.last_announced m.table.table.rows m.waiting.items (map (λ w. w.rows.items) m.sets.items); lists = m.lists.items; cut = m.cut.items; transactions = map (λ w. w.transaction) m.sets.items; is_stopped = m.is_stopped } };
+    ghost view = { λ m. record (state_of m.held) { is_stopped = m.is_stopped } };
 
-    ghost invariant = { λ m. m.is_stopped ≡ false → IsWhole m.table m.waiting.items m.lists.items };
+    ghost invariant = { λ m. m.is_stopped ≡ false → IsWhole m.held };
 }
 
 /// A queue for each view, with no number yet.
@@ -72,22 +68,21 @@ fn new_table(alloc: Global, views: u32) -> Result<Table, NoMemory>
     }
 }
 
-/// Takes a transaction into the table.
+/// Takes a transaction into the table. It waits for a list, so still no row is ready.
 fn add_row(
     table: &mut Table,
     number: u64,
     source: u32,
     place: u64,
-    views: usize,
     concerned: &[u32],
 ) -> Result<(), NoMemory>
-    requires views { table.old.views ≡ views }
     requires unready { ready_numbers table.old.table.rows ≡ None }
     requires above { table.old.table.last_announced < number }
     requires some { 0 < length concerned.now }
-    requires there { All (λ x. x < views) concerned.now }
+    requires there { All (λ x. x < table.old.views) concerned.now }
     requires once { AllPairs (λ x y. x ≢ y) concerned.now }
-    ensures rows { OnOk result (table.new.table.rows ≡ table.old.table.rows ++ announced_row views number source place concerned.now ∷ []) }
+    ensures rows { OnOk result (table.new.table.rows ≡ table.old.table.rows
+        ++ announced_row table.old.views number source place concerned.now ∷ []) }
     ensures unready { OnOk result (ready_numbers table.new.table.rows ≡ None) }
     ensures last { OnOk result (table.new.table.last_announced ≡ number) }
     ensures kept { OnOk result (table.new.views ≡ table.old.views) }
@@ -106,11 +101,13 @@ impl Merge {
         let views = setup.views();
         let sources = setup.sources();
         Ok(Merge {
-            table: new_table(alloc, views)?,
-            waiting: queues(alloc, views)?,
-            lists: no_lists(alloc, views)?,
-            cut: vec![in alloc; 0u64; sources as usize]?,
-            sets: VecDeque::new(alloc),
+            held: Holdings {
+                table: new_table(alloc, views)?,
+                waiting: queues(alloc, views)?,
+                lists: no_lists(alloc, views)?,
+                cut: vec![in alloc; 0u64; sources as usize]?,
+                sets: VecDeque::new(alloc),
+            },
             is_stopped: false,
         })
     }
@@ -128,7 +125,8 @@ impl Merge {
         requires some { 0 < length concerned.now }
         requires there { All (λ x. x < length self.old.lists) concerned.now }
         requires once { AllPairs (λ x y. x ≢ y) concerned.now }
-        ensures taken { OnOk result (self.new ≡ after_rel (announced_row (length self.old.lists) number source place concerned.now) self.old) }
+        ensures taken { OnOk result (self.new ≡ after_rel
+            (announced_row (length self.old.lists) number source place concerned.now) self.old) }
         ensures announced { OnOk result (self.new.merge.table.last_announced ≡ number) }
         ensures views { OnOk result (length self.new.lists ≡ length self.old.lists) }
         ensures err { OnErr result (IsStoppedAfter self.old self.new) }
@@ -138,17 +136,8 @@ impl Merge {
             return Err(NoMemory);
         }
         self.is_stopped = true;
-        let alloc = *self.waiting.allocator();
-        let views = self.lists.len();
-        add_row(&mut self.table, number, source, place, views, concerned)?;
-        settle(
-            alloc,
-            &mut self.table,
-            &mut self.waiting,
-            &mut self.lists,
-            &mut self.cut,
-            &mut self.sets,
-        )?;
+        add_row(&mut self.held.table, number, source, place, concerned)?;
+        settle(&mut self.held)?;
         self.is_stopped = false;
         Ok(())
     }
@@ -158,7 +147,8 @@ impl Merge {
     pub fn act(&mut self, list: ActionList) -> Result<(), NoMemory>
         requires { list.view < length self.old.lists }
         ensures taken { OnOk result (self.new ≡ after_act list self.old) }
-        ensures announced { OnOk result (self.new.merge.table.last_announced ≡ self.old.merge.table.last_announced) }
+        ensures announced { OnOk result
+            (self.new.merge.table.last_announced ≡ self.old.merge.table.last_announced) }
         ensures views { OnOk result (length self.new.lists ≡ length self.old.lists) }
         ensures err { OnErr result (IsStoppedAfter self.old self.new) }
         ensures stopped { self.old.is_stopped ≡ true → IsErr result }
@@ -167,18 +157,10 @@ impl Merge {
             return Err(NoMemory);
         }
         self.is_stopped = true;
-        let alloc = *self.waiting.allocator();
         let view = list.view as usize;
-        self.waiting[view].push(list.upto)?;
-        self.lists[view].push(list)?;
-        settle(
-            alloc,
-            &mut self.table,
-            &mut self.waiting,
-            &mut self.lists,
-            &mut self.cut,
-            &mut self.sets,
-        )?;
+        self.held.waiting[view].push(list.upto)?;
+        self.held.lists[view].push(list)?;
+        settle(&mut self.held)?;
         self.is_stopped = false;
         Ok(())
     }
@@ -187,7 +169,7 @@ impl Merge {
     pub fn waits(&self) -> bool
         ensures { result ≡ nat_lt 0 (length self.now.transactions) }
     {
-        !self.sets.is_empty()
+        !self.held.sets.is_empty()
     }
 
     /// Hands out the oldest transaction that waits; `None` exactly where none waits.
@@ -195,7 +177,7 @@ impl Merge {
         ensures next { result ≡ front self.old.transactions }
         ensures left { self.new ≡ after_next self.old }
     {
-        match self.sets.pop_front() {
+        match self.held.sets.pop_front() {
             Some(waiting) => Some(waiting.transaction),
             None => None,
         }

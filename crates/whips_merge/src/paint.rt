@@ -3,7 +3,7 @@ ghost use Rattle.std.specs.Prelude.{◌≡◌, ◌<◌, ◌≤◌, false, length
 ghost use Rattle.std.specs.Option.{option_map};
 ghost use Rattle.whips_flow.specs.Painted.{painted_rows};
 ghost use Rattle.whips_flow.specs.Settling.{due_lists, later_lists, rows_after_lists};
-ghost use Rattle.whips_paint.specs.Table.{ready_numbers, ready_rows, rows_left};
+ghost use Rattle.whips_paint.specs.Table.{with_rows, ready_numbers, ready_rows, rows_left};
 
 use crate::lists::Queue;
 use whips_paint::{Row, Table};
@@ -12,7 +12,8 @@ use whips_rel::NoMemory;
 /// Paints each list of a view whose rows have come; says whether there was one.
 fn paint_view(table: &mut Table, x: u32, waiting: &mut Queue) -> bool
     requires there { x < table.old.views }
-    ensures table { table.new ≡ record table.old { table = record table.old.table { rows = fold (painted_rows x) table.old.table.rows (due_lists table.old.table.last_announced waiting.old) } } }
+    ensures table { table.new ≡ with_rows table.old (fold (painted_rows x) table.old.table.rows
+        (due_lists table.old.table.last_announced waiting.old)) }
     ensures waiting { waiting.new ≡ later_lists table.old.table.last_announced waiting.old }
     ensures none { result ≡ false → table.new ≡ table.old }
 {
@@ -29,8 +30,10 @@ fn paint_view(table: &mut Table, x: u32, waiting: &mut Queue) -> bool
 pub(crate) fn paint_all(table: &mut Table, waiting: &mut Vec<Queue>) -> bool
     requires there { length waiting.old.items ≡ table.old.views }
     requires few { table.old.views ≤ 8 }
-    ensures table { table.new ≡ record table.old { table = record table.old.table { rows = rows_after_lists table.old.table.last_announced 0 waiting.old.items table.old.table.rows } } }
-    ensures waiting { waiting.new.items ≡ map (later_lists table.old.table.last_announced) waiting.old.items }
+    ensures table { table.new ≡ with_rows table.old (rows_after_lists
+        table.old.table.last_announced 0 waiting.old.items table.old.table.rows) }
+    ensures waiting { waiting.new.items
+        ≡ map (later_lists table.old.table.last_announced) waiting.old.items }
     ensures none { result ≡ false → table.new ≡ table.old }
 {
     let mut is_painted = false;
@@ -43,8 +46,10 @@ pub(crate) fn paint_all(table: &mut Table, waiting: &mut Vec<Queue>) -> bool
 
 /// Takes the rows that go with the lowest ready one out of the table; none where no row is ready.
 pub(crate) fn take_ready(table: &mut Table) -> Result<Option<Vec<Row>>, NoMemory>
-    ensures taken { IfOk result (λ taken. option_map (λ v. v.items) taken ≡ ready_rows table.old.table.rows) }
-    ensures table { OnOk result (table.new ≡ record table.old { table = record table.old.table { rows = rows_left (ready_numbers table.old.table.rows) table.old.table.rows } }) }
+    ensures taken { IfOk result (λ taken.
+        option_map (λ v. v.items) taken ≡ ready_rows table.old.table.rows) }
+    ensures table { OnOk result (table.new ≡ with_rows table.old
+        (rows_left (ready_numbers table.old.table.rows) table.old.table.rows)) }
 {
     match table.take_ready_rows() {
         Ok(rows) => Ok(rows),

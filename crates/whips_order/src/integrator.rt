@@ -1,5 +1,5 @@
 //! The integrator.
-ghost use Rattle.std.specs.Prelude.{◌≡◌, ◌<◌, suc, cond, [], ◌∷◌, ◌++◌, length, List, slice_index, slice_set, IfOk, OnOk, OnErr};
+ghost use Rattle.std.specs.Prelude.{◌≡◌, ◌<◌, ◌^◌, suc, if◌then◌else◌, [], ◌∷◌, ◌++◌, length, List, slice_index, slice_set, IfOk, OnOk, OnErr};
 ghost use Rattle.whips_states.specs.Concerns.{concerns};
 ghost use Rattle.whips_flow.specs.State.{NumberedTransaction};
 ghost use Rattle.whips_order.specs.Numbering.{Counts, counts_of, numbering_after, forward_of, concerned_views};
@@ -29,7 +29,8 @@ impl Model for Integrator {
 
 /// The count after one more. Where it has no room for one more, there is no memory.
 fn next(count: u64) -> Result<u64, NoMemory>
-    ensures { IfOk result (λ n. n ≡ suc count) }
+    ensures next { IfOk result (λ n. n ≡ suc count) }
+    ensures full { OnErr result (suc count ≡ 2 ^ 64) }
 {
     match count.checked_add(1) {
         Some(next) => Ok(next),
@@ -44,7 +45,8 @@ fn add_concerned(
     update: &Trans,
     concerned: &mut Vec<u32>,
 ) -> Result<(), NoMemory>
-    ensures { OnOk result (concerned.new.items ≡ concerned.old.items ++ cond (concerns view.now.parts update.now) (x ∷ []) []) }
+    ensures { OnOk result (concerned.new.items ≡ concerned.old.items
+        ++ (if concerns view.now.parts update.now then x ∷ [] else [])) }
 {
     if view.touches(update) {
         concerned.push(x)?;
@@ -77,8 +79,15 @@ impl Integrator {
     /// Numbers the next transaction of the source.
     fn number(&mut self, setup: &Setup, source: u32, update: Trans) -> Result<Forward, NoMemory>
         requires { source < length self.old.places }
-        ensures forwarded { IfOk result (λ f. f ≡ Numbered (suc self.old.total) (suc (slice_index self.old.places source)) update (concerned_views setup.now.views update)) }
-        ensures counted { OnOk result (self.new ≡ record { total = suc self.old.total; places = slice_set self.old.places source (suc (slice_index self.old.places source)) }) }
+        ensures forwarded { IfOk result (λ f. f ≡ Numbered
+            (suc self.old.total)
+            (suc (slice_index self.old.places source))
+            update
+            (concerned_views setup.now.views update)) }
+        ensures counted { OnOk result (self.new ≡ record {
+            total = suc self.old.total;
+            places = slice_set self.old.places source (suc (slice_index self.old.places source))
+        }) }
         ensures err { OnErr result (self.new ≡ self.old) }
     {
         let concerned = concerned_by(*self.places.allocator(), setup, &update)?;
@@ -100,8 +109,13 @@ impl Integrator {
     pub fn take(&mut self, setup: &Setup, source: u32, m: Message) -> Result<Forward, NoMemory>
         requires sources { length self.old.places ≡ setup.now.sources }
         requires there { source < setup.now.sources }
-        ensures forwarded { (numbering : List NumberedTransaction) → self.old ≡ counts_of setup.now.sources numbering → IfOk result (λ f. f ≡ forward_of setup.now.views numbering source m) }
-        ensures counted { (numbering : List NumberedTransaction) → self.old ≡ counts_of setup.now.sources numbering → OnOk result (self.new ≡ counts_of setup.now.sources (numbering_after source m numbering)) }
+        ensures forwarded { (numbering : List NumberedTransaction)
+            → self.old ≡ counts_of setup.now.sources numbering
+            → IfOk result (λ f. f ≡ forward_of setup.now.views numbering source m) }
+        ensures counted { (numbering : List NumberedTransaction)
+            → self.old ≡ counts_of setup.now.sources numbering
+            → OnOk result
+                (self.new ≡ counts_of setup.now.sources (numbering_after source m numbering)) }
         ensures sources { length self.new.places ≡ length self.old.places }
         ensures err { OnErr result (self.new ≡ self.old) }
     {

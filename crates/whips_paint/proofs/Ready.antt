@@ -1,4 +1,10 @@
 -- The marked rows are those that aren't ready, or those of a closure.
+--
+-- `ready_at` and `closure_at`: marks that spread from one row to all that it needs are its closure, and no marked row waits exactly where that row is ready. `first_ready_place`: marks that spread from the waiting rows to all that need them leave clear the rows that are ready.
+--
+-- The idea: what a spread has marked is the least set with the first marks that has, with each row, each row to which that one leads. The closure is the least closed set with its own row, so each of both sets is contained in the other. A row isn't ready exactly where its closure has a waiting row, so the rows that aren't ready are those that lead to a waiting one.
+--
+-- Four lemmas carry it: `marked_in_closure` (the marks are the closure), `closure_filters` (a closure's numbers are those of a filter of the rows, so in their order), `not_ready_back` (a row that needs one that isn't ready isn't ready) and `unready_marked` (a row is clear exactly where it is ready).
 use Rattle.std.proofs.Common.{◌≡◌, ℕ, zero, suc, ◌+◌, ◌<◌, ◌≤◌, Bool, true, false, ◌&&◌, ◌||◌, List, [], ◌∷◌, ◌++◌, length, Result, Ok, Err, cond, eqb, ltb, Option, Some, None, refl, sym, ap, ap₂, subst, ◌∙◌, arith, inl, inr, ⊎_elim}
 use Rattle.std.specs.Prelude.{slice_get, not, map, replicate, filter, position}
 use Rattle.std.specs.List.{AllPairs, AllByRecursion, list_all, zip, find, position_or_len}
@@ -17,7 +23,8 @@ use Rattle.std.proofs.Math.Seq.{take-append_seam}
 use Rattle.whips_paint.proofs.Spreading.{set_cases}
 use Rattle.whips_flow.specs.Painted.{Row, needs, has_number, closure, is_in_or_needed, with_needed, with_needed_again, is_waiting, is_ready}
 use Rattle.whips_closure_laws.specs.Closure.{IsClosed, IsLeastClosed}
-use Rattle.whips_closure_laws.proofs.Grown.{In, all_in, all_from, closure_least}
+use Rattle.whips_closure_laws.proofs.Grown.{closure_least}
+use Rattle.whips_lists.proofs.InList.{In, all_in, all_from}
 use Rattle.whips_paint.specs.declared.marks.Mark.{Mark}
 use Rattle.whips_paint.specs.declared.marks.Mark.TheVariants.{Clear, Found}
 use Rattle.whips_paint.specs.declared.bounds.Side.{Side}

@@ -7,9 +7,9 @@ use Rattle.std.proofs.lemmas.List.Quantifiers.{all_pairs_push}
 use Rattle.std.proofs.lemmas.List.Kept.{AllPairs-filter}
 use Rattle.std.proofs.lemmas.List.Elements.{filter-append, All-push, All-filter, All-map}
 use Rattle.std.proofs.Math.ListN.{get_or}
-use Rattle.whips_flow.specs.Lists.{places_from, changed_at}
+use Rattle.whips_lists.specs.Lists.{places_from, changed_at}
 use Rattle.whips_flow.specs.Painted.{Row, with_row, painted_row, painted_rows, reddened_entry, closure, has_number, rows_with, rows_without, is_ready}
-use Rattle.whips_paint.specs.Table.{ViewTable, IsInOrder, placed_row, new_entries, ready_numbers, ready_rows, rows_left}
+use Rattle.whips_paint.specs.Table.{ViewTable, with_rows, IsInOrder, placed_row, new_entries, ready_numbers, ready_rows, rows_left}
 use Rattle.whips_paint.proofs.Entries.{colour_at}
 use Rattle.whips_paint.proofs.Ready.{found_from_position, none_from_position}
 
@@ -38,9 +38,6 @@ order_push t number source place ks h above = record {
     below k d lt = let said : (get_or t.table.rows k d).number ≤ t.table.last_announced = h.announced k d lt in omega arith
 
 -- ---- painting
-
-abbrev pub with_rows : ViewTable → List Row → ViewTable
-with_rows t rows = record { views = t.views; table = record { rows = rows; last_announced = t.table.last_announced } }
 
 length-painted : (x j : ℕ) (r : Row) → length (painted_row x j r).entries ≡ length r.entries
 length-painted x j r = go (leb r.number j)

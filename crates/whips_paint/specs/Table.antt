@@ -2,13 +2,20 @@
 use Rattle.std.specs.Prelude.{◌≡◌, ℕ, ◌<◌, ◌≤◌, ◌==◌, Bool, false, List, length, map, Option, Some, None, if◌then◌else◌}
 use Rattle.std.specs.List.{All, AllPairs}
 use Rattle.std.specs.Option.{option_map}
-use Rattle.whips_flow.specs.Lists.{places_from}
+use Rattle.whips_lists.specs.Lists.{places_from}
 use Rattle.whips_flow.specs.Painted.{Colour, black, white, red, Row, PaintedTable, has_number, closure, rows_with, rows_without, lowest_ready}
 
 -- a painted table over a number of views
 pub record ViewTable : Type 0 where
   pub views : ℕ
   pub table : PaintedTable
+
+abbrev pub table_of : ℕ → List Row → ℕ → ViewTable
+table_of views rows last = record { views = views; table = record { rows = rows; last_announced = last } }
+
+-- the table with these rows
+abbrev pub with_rows : ViewTable → List Row → ViewTable
+with_rows t rows = record t { table = record (t.table) { rows = rows } }
 
 -- ---- a new row
 

@@ -1,5 +1,5 @@
 //! Which rows are ready, and which of them go together.
-ghost use Rattle.std.specs.Prelude.{◌≡◌, ◌<◌, ◌++◌, ◌∷◌, [], cond, OnOk, Some, length, map, not, filter, position, slice_get, IfOk};
+ghost use Rattle.std.specs.Prelude.{◌≡◌, ◌<◌, ◌++◌, ◌∷◌, [], if◌then◌else◌, OnOk, Some, length, map, not, filter, position, slice_get, IfOk};
 ghost use Rattle.std.specs.List.{AllPairs, list_all, zip};
 ghost use Rattle.std.specs.List.Sorted.{IsStrictlyIncreasing};
 ghost use Rattle.std.specs.Option.{option_map};
@@ -34,7 +34,8 @@ fn waiting_marks(alloc: Global, rows: &[Row]) -> Result<Vec<Mark>, NoMemory>
 fn closure_marks(alloc: Global, rows: &[Row], place: usize) -> Result<Vec<Mark>, NoMemory>
     requires order { AllPairs (λ r q. r.number < q.number) rows.now }
     requires place { place < length rows.now }
-    ensures { IfOk result (λ m. IsSpread Needed rows.now (one_mark (length rows.now) place) m.items) }
+    ensures { IfOk result (λ m.
+        IsSpread Needed rows.now (one_mark (length rows.now) place) m.items) }
 {
     let mut marks = vec![in alloc; Mark::Clear; rows.len()]?;
     marks[place] = Mark::Found;
@@ -55,7 +56,8 @@ fn none_waits(rows: &[Row], marks: &[Mark]) -> bool
 fn is_ready_at(alloc: Global, rows: &[Row], place: usize) -> Result<bool, NoMemory>
     requires order { AllPairs (λ r q. r.number < q.number) rows.now }
     requires place { place < length rows.now }
-    ensures { IfOk result (λ b. option_map (is_ready rows.now) (slice_get rows.now place) ≡ Some b) }
+    ensures { IfOk result (λ b.
+        option_map (is_ready rows.now) (slice_get rows.now place) ≡ Some b) }
 {
     let marks = closure_marks(alloc, rows, place)?;
     Ok(none_waits(rows, &marks))
@@ -100,7 +102,8 @@ pub(crate) fn first_ready(alloc: Global, rows: &[Row]) -> Result<Option<usize>, 
 
 /// The numbers of the marked rows, in order.
 fn marked_numbers(alloc: Global, rows: &[Row], marks: &[Mark]) -> Result<Vec<u64>, NoMemory>
-    ensures { IfOk result (λ v. v.items ≡ map number_of_pair (filter is_marked_pair (zip rows.now marks.now))) }
+    ensures { IfOk result (λ v.
+        v.items ≡ map number_of_pair (filter is_marked_pair (zip rows.now marks.now))) }
 {
     Ok(
         rows.iter()
@@ -119,7 +122,8 @@ pub(crate) fn closure_numbers(
 ) -> Result<Vec<u64>, NoMemory>
     requires order { AllPairs (λ r q. r.number < q.number) rows.now }
     requires place { place < length rows.now }
-    ensures { IfOk result (λ v. option_map (λ r. closure rows.now r.number) (slice_get rows.now place) ≡ Some v.items) }
+    ensures { IfOk result (λ v.
+        option_map (λ r. closure rows.now r.number) (slice_get rows.now place) ≡ Some v.items) }
 {
     let marks = closure_marks(alloc, rows, place)?;
     marked_numbers(alloc, rows, &marks)
@@ -143,7 +147,8 @@ pub(crate) fn remove_rows(rows: &mut Vec<Row>, numbers: &[u64])
 /// Puts a copy of the row to the others, where it has one of the numbers.
 fn copy_one(row: &Row, numbers: &[u64], copies: &mut Vec<Row>) -> Result<(), NoMemory>
     requires { IsStrictlyIncreasing numbers.now }
-    ensures { OnOk result (copies.new.items ≡ copies.old.items ++ cond (has_number numbers.now row.now.number) (row.now ∷ []) []) }
+    ensures { OnOk result (copies.new.items ≡ copies.old.items
+        ++ (if has_number numbers.now row.now.number then row.now ∷ [] else [])) }
 {
     if !lacks(numbers, row.number()) {
         copies.push(row.copy()?)?;

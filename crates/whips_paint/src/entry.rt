@@ -1,7 +1,7 @@
 //! The entries of a row, one for each view.
 ghost use Rattle.std.specs.Prelude.{◌≡◌, ◌<◌, Some, IfOk, map, slice_get};
 ghost use Rattle.std.specs.List.{All, list_any};
-ghost use Rattle.whips_flow.specs.Lists.{changed_at};
+ghost use Rattle.whips_lists.specs.Lists.{changed_at};
 ghost use Rattle.whips_flow.specs.Painted.{is_concerned, is_white, entry_needs, reddened_entry};
 ghost use Rattle.whips_paint.specs.Table.{new_entries, is_red};
 ghost use Rattle.whips_paint.specs.Entries.{entry_colour};
@@ -100,7 +100,8 @@ pub(crate) fn entries_of(
 
 /// Makes the entry of the view red where it is white.
 pub(crate) fn redden(entries: &mut [Entry], view: u32, upto: u64)
-    ensures { map entry_colour entries.new ≡ changed_at view (reddened_entry upto) (map entry_colour entries.old) }
+    ensures { map entry_colour entries.new
+        ≡ changed_at view (reddened_entry upto) (map entry_colour entries.old) }
 {
     let view = view as usize;
     if view < entries.len() && entries[view].is_white() {

@@ -62,9 +62,12 @@ fn visit(
     requires size { length marks.old ≡ length rows.now }
     requires place { place < length rows.now }
     ensures size { length marks.new ≡ length marks.old }
-    ensures grown { IfOk result (λ grew. grew ≡ true → IsGrown side rows.now marks.old marks.new bounds.old.items bounds.new.items) }
-    ensures same { IfOk result (λ grew. grew ≡ false → IsSame marks.old marks.new bounds.old.items bounds.new.items) }
-    ensures told { IfOk result (λ grew. grew ≡ false → IsTold side rows.now marks.new bounds.new.items place) }
+    ensures grown { IfOk result (λ grew. grew ≡ true
+        → IsGrown side rows.now marks.old marks.new bounds.old.items bounds.new.items) }
+    ensures same { IfOk result (λ grew. grew ≡ false
+        → IsSame marks.old marks.new bounds.old.items bounds.new.items) }
+    ensures told { IfOk result (λ grew. grew ≡ false
+        → IsTold side rows.now marks.new bounds.new.items place) }
 {
     if !marks[place].is_clear() || !is_led(bounds, side, &rows[place]) {
         return Ok(false);
@@ -84,9 +87,12 @@ fn sweep(
     requires size { length marks.old ≡ length rows.now }
     requires order { AllPairs (λ r q. r.number < q.number) rows.now }
     ensures size { length marks.new ≡ length marks.old }
-    ensures grown { IfOk result (λ grew. grew ≡ true → IsGrown side rows.now marks.old marks.new bounds.old.items bounds.new.items) }
-    ensures same { IfOk result (λ grew. grew ≡ false → IsSame marks.old marks.new bounds.old.items bounds.new.items) }
-    ensures told { IfOk result (λ grew. grew ≡ false → (k : _) → IsTold side rows.now marks.new bounds.new.items k) }
+    ensures grown { IfOk result (λ grew. grew ≡ true
+        → IsGrown side rows.now marks.old marks.new bounds.old.items bounds.new.items) }
+    ensures same { IfOk result (λ grew. grew ≡ false
+        → IsSame marks.old marks.new bounds.old.items bounds.new.items) }
+    ensures told { IfOk result (λ grew. grew ≡ false
+        → (k : _) → IsTold side rows.now marks.new bounds.new.items k) }
 {
     let mut grew = false;
     for place in 0..rows.len() {

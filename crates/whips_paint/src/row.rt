@@ -1,14 +1,13 @@
 //! A row of the table: a numbered transaction with an entry for each view.
-ghost use Rattle.std.specs.Prelude.{◌≡◌, ◌<◌, length, slice_get, IfOk};
-ghost use Rattle.std.specs.List.{All};
+ghost use Rattle.std.specs.Prelude.{◌≡◌, length, map, slice_get, IfOk};
 ghost use Rattle.whips_flow.specs.Painted.{painted_row, is_waiting};
-ghost use Rattle.whips_paint.specs.Table.{placed_row, is_red};
+ghost use Rattle.whips_paint.specs.Entries.{entry_colour};
+ghost use Rattle.whips_paint.specs.Table.{is_red};
 ghost use Rattle.whips_paint.specs.Bounds.{bound_draws, row_bound};
 
 use crate::NoMemory;
 use crate::bounds::{Bound, Side};
-use crate::entry::{Entry, bound_at, entries_of, has_white, is_drawn_at, is_red_at, redden};
-use std::alloc::Global;
+use crate::entry::{Entry, bound_at, has_white, is_drawn_at, is_red_at, redden};
 use std::marker::Model;
 
 /// A numbered transaction of a source with one entry per view.
@@ -27,28 +26,30 @@ impl Model for Row {
 
     ghost Value = { PaintedRow };
 
-    ghost view = { λ r. record { number = r.number; source = r.source; place = r.place; entries = map entry_colour r.entries.items } };
+    ghost view = { λ r. record {
+        number = r.number;
+        source = r.source;
+        place = r.place;
+        entries = map entry_colour r.entries.items
+    } };
 }
 
 impl Row {
-    /// The row of a new transaction: white for the concerned views and black for the others.
-    pub(crate) fn new(
-        alloc: Global,
-        number: u64,
-        source: u32,
-        place: u64,
-        views: u32,
-        concerned: &[u32],
-    ) -> Result<Row, NoMemory>
-        requires { All (λ x. x < views) concerned.now }
-        ensures { IfOk result (λ r. r ≡ placed_row views number source place concerned.now) }
+    /// The row of a transaction with these entries.
+    pub(crate) fn new(number: u64, source: u32, place: u64, entries: Vec<Entry>) -> Row
+        ensures { result ≡ record {
+            number = number;
+            source = source;
+            place = place;
+            entries = map entry_colour entries.items
+        } }
     {
-        Ok(Row {
+        Row {
             number,
             source,
             place,
-            entries: entries_of(alloc, views, concerned)?,
-        })
+            entries,
+        }
     }
 
     /// The number of the transaction.

@@ -4,9 +4,10 @@ ghost use Rattle.std.specs.List.{All, AllPairs};
 ghost use Rattle.std.specs.Option.{option_map};
 ghost use Rattle.whips_flow.specs.Painted.{with_row, painted_rows};
 ghost use Rattle.whips_flow.specs.State.{new_table};
-ghost use Rattle.whips_paint.specs.Table.{ViewTable, IsInOrder, new_row, placed_row, ready_numbers, ready_rows, rows_left};
+ghost use Rattle.whips_paint.specs.Table.{ViewTable, IsInOrder, with_rows, new_row, placed_row, ready_numbers, ready_rows, rows_left};
 
 use crate::NoMemory;
+use crate::entry::entries_of;
 use crate::closure::{closure_numbers, copy_rows, first_ready, remove_rows};
 use crate::row::Row;
 use std::alloc::Global;
@@ -22,13 +23,13 @@ pub struct Table {
 }
 
 impl Model for Table {
-    ghost use Rattle.whips_paint.specs.Table.{ViewTable, IsInOrder};
+    ghost use Rattle.whips_paint.specs.Table.{ViewTable, table_of, IsInOrder};
 
     ghost Value = { ViewTable };
 
-    ghost view = { λ t. record { views = t.views; table = record { rows = t.rows.items; last_announced = t.last_announced } } };
+    ghost view = { λ t. table_of t.views t.rows.items t.last_announced };
 
-    ghost invariant = { λ t. IsInOrder (record { views = t.views; table = record { rows = t.rows.items; last_announced = t.last_announced } }) };
+    ghost invariant = { λ t. IsInOrder (table_of t.views t.rows.items t.last_announced) };
 }
 
 impl Table {
@@ -70,7 +71,11 @@ impl Table {
         requires some { 0 < length concerned.now.items }
         requires there { All (λ x. x < self.old.views) concerned.now.items }
         requires once { AllPairs (λ x y. x ≢ y) concerned.now.items }
-        ensures ok { OnOk result (self.new ≡ record self.old { table = with_row (new_row self.old.views number source concerned.now.items) self.old.table }) }
+        ensures ok { OnOk result (self.new ≡ record self.old {
+            table = with_row
+                (new_row self.old.views number source concerned.now.items)
+                self.old.table
+        }) }
         ensures err { OnErr result (self.new ≡ self.old) }
     {
         self.add_row_at(number, source, 0, concerned)
@@ -88,17 +93,15 @@ impl Table {
         requires some { 0 < length concerned.now }
         requires there { All (λ x. x < self.old.views) concerned.now }
         requires once { AllPairs (λ x y. x ≢ y) concerned.now }
-        ensures ok { OnOk result (self.new ≡ record self.old { table = with_row (placed_row self.old.views number source place concerned.now) self.old.table }) }
+        ensures ok { OnOk result (self.new ≡ record self.old {
+            table = with_row
+                (placed_row self.old.views number source place concerned.now)
+                self.old.table
+        }) }
         ensures err { OnErr result (self.new ≡ self.old) }
     {
-        let row = Row::new(
-            *self.rows.allocator(),
-            number,
-            source,
-            place,
-            self.views,
-            concerned,
-        )?;
+        let entries = entries_of(*self.rows.allocator(), self.views, concerned)?;
+        let row = Row::new(number, source, place, entries);
         self.rows.push(row)?;
         self.last_announced = number;
         Ok(())
@@ -109,7 +112,7 @@ impl Table {
     pub fn paint(&mut self, view: u32, upto: u64)
         requires announced { upto ≤ self.old.table.last_announced }
         requires there { view < self.old.views }
-        ensures { self.new ≡ record self.old { table = record self.old.table { rows = painted_rows view self.old.table.rows upto } } }
+        ensures { self.new ≡ with_rows self.old (painted_rows view self.old.table.rows upto) }
     {
         for row in self.rows.iter_mut() {
             row.paint(view, upto);
@@ -119,8 +122,10 @@ impl Table {
     /// Takes the lowest ready row and all rows that go with it out of the table, and answers their
     /// numbers in order; `None` where no row is ready.
     pub fn take_ready(&mut self) -> Result<Option<Vec<u64>>, NoMemory>
-        ensures taken { IfOk result (λ taken. option_map (λ v. v.items) taken ≡ ready_numbers self.old.table.rows) }
-        ensures left { OnOk result (self.new ≡ record self.old { table = record self.old.table { rows = rows_left (ready_numbers self.old.table.rows) self.old.table.rows } }) }
+        ensures taken { IfOk result (λ taken.
+            option_map (λ v. v.items) taken ≡ ready_numbers self.old.table.rows) }
+        ensures left { OnOk result (self.new ≡ with_rows self.old
+            (rows_left (ready_numbers self.old.table.rows) self.old.table.rows)) }
         ensures err { OnErr result (self.new ≡ self.old) }
     {
         let alloc = *self.rows.allocator();
@@ -134,8 +139,10 @@ impl Table {
 
     /// The same, and answers the rows themselves, with the lists that cover them.
     pub fn take_ready_rows(&mut self) -> Result<Option<Vec<Row>>, NoMemory>
-        ensures taken { IfOk result (λ taken. option_map (λ v. v.items) taken ≡ ready_rows self.old.table.rows) }
-        ensures left { OnOk result (self.new ≡ record self.old { table = record self.old.table { rows = rows_left (ready_numbers self.old.table.rows) self.old.table.rows } }) }
+        ensures taken { IfOk result (λ taken.
+            option_map (λ v. v.items) taken ≡ ready_rows self.old.table.rows) }
+        ensures left { OnOk result (self.new ≡ with_rows self.old
+            (rows_left (ready_numbers self.old.table.rows) self.old.table.rows)) }
         ensures err { OnErr result (self.new ≡ self.old) }
     {
         let alloc = *self.rows.allocator();

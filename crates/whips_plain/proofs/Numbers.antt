@@ -12,8 +12,8 @@ use Rattle.whips_model.specs.declared.ColRef.{ColRef}
 use Rattle.whips_model.specs.Tuples.{Codes, Columns}
 use Rattle.whips_model.specs.Relation.{Table, rows_in, table_rows, value_of}
 use Rattle.whips_model.specs.Views.{Choice, code_at}
-use Rattle.whips_model.specs.Members.{Has}
-use Rattle.whips_model.proofs.Members.{all_has, all_from_has, has_first, has_later}
+use Rattle.whips_lists.specs.Members.{Has}
+use Rattle.whips_lists.proofs.Members.{all_has, all_from_has, has_first, has_later}
 use Rattle.whips_choices.specs.KeyedViews.{IsChoiceOf}
 use Rattle.whips_choices.proofs.Values.{value_choice}
 use Rattle.whips_view.specs.ViewDefs.{View, kinds_in, kind_of, row_columns, columns_in, HasBases, IsWellFormed, is_within}

@@ -2,7 +2,7 @@
 ghost use Rattle.std.specs.Prelude.{◌≡◌, ℕ, ◌≤◌, IfOk};
 ghost use Rattle.std.specs.List.{AllByRecursion};
 ghost use Rattle.whips_store.specs.Sound.{IsSoundView};
-ghost use Rattle.whips_plain.specs.First.{views_at_first};
+ghost use Rattle.whips_store.specs.First.{views_at_first};
 ghost use Rattle.whips_plain.specs.Plain.{HasFewSlots};
 
 use std::alloc::Global;

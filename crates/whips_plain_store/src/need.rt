@@ -2,7 +2,7 @@
 ghost use Rattle.std.specs.Prelude.{◌≡◌, ◌≤◌, ◌+◌, ◌^◌, [], ◌∷◌, length, map, reverse, OnOk};
 ghost use Rattle.std.specs.List.{AllByRecursion};
 ghost use Rattle.whips_model.specs.Tuples.{put_row};
-ghost use Rattle.whips_flow.specs.Lists.{places_from};
+ghost use Rattle.whips_lists.specs.Lists.{places_from};
 ghost use Rattle.whips_vnl.specs.Records.{steps_or_none};
 ghost use Rattle.whips_store.specs.Versions.{rows_at};
 ghost use Rattle.whips_store.specs.Sound.{HaveWidth};

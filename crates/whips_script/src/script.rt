@@ -36,13 +36,12 @@ pub struct Script {
 }
 
 impl Model for Script {
-    ghost use Rattle.std.specs.Prelude.{map};
-    ghost use Rattle.whips_script.specs.Script.{Script as ScriptData};
+    ghost use Rattle.whips_script.specs.Script.{NamedScript, named_script};
     ghost use Rattle.whips_script.specs.Made.{IsScript};
 
-    ghost Value = { ScriptData };
+    ghost Value = { NamedScript };
 
-    ghost view = { λ s. record { sources = s.sources.items; initial = s.setup.initial; work = s.work; names = s.names.items; views = map (λ v. v.parts) s.setup.views } };
+    ghost view = { λ s. named_script s.setup s.work s.sources.items s.names.items };
 
     ghost invariant = { λ s. IsScript s.setup s.work s.counts.items s.last };
 }
@@ -50,21 +49,21 @@ impl Model for Script {
 impl Script {
     /// The names of its sources.
     pub fn sources(&self) -> &[Text]
-        ensures { result.now ≡ self.now.sources }
+        ensures { result.now ≡ self.now.labels.sources }
     {
         &self.sources
     }
 
     /// The number of each source's transactions.
     pub fn transactions(&self) -> &[u64]
-        ensures { result.now ≡ map length self.now.work }
+        ensures { result.now ≡ map length self.now.script.work }
     {
         &self.counts
     }
 
     /// The names of its views.
     pub fn views(&self) -> &[Text]
-        ensures { result.now ≡ self.now.names }
+        ensures { result.now ≡ self.now.labels.views }
     {
         &self.names
     }
@@ -72,7 +71,7 @@ impl Script {
     /// The value of each view on the state after all transactions.
     pub fn final_values(&self, alloc: Global) -> Result<Vec<Rows>, NoMemory>
         ensures { IfOk result (λ values. map (λ t. t.rows) values.items
-            ≡ map (λ v. value_of v (final_state self.now)) self.now.views) }
+            ≡ map (λ v. value_of v.parts (final_state self.now.script)) self.now.script.setup.views) }
     {
         let mut values = Vec::new(alloc);
         for x in 0..self.setup.views() {

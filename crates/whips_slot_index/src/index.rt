@@ -3,14 +3,14 @@ ghost use Rattle.std.specs.Prelude.{◌≡◌, ◌↔◌, ◌+◌, ◌*◌, ◌<
 ghost use Rattle.std.specs.List.{position, AllByRecursion};
 ghost use Rattle.std.specs.List.Sorted.{IsStrictlySortedBy};
 ghost use Rattle.std.specs.Ordering.{nat_cmp};
-ghost use Rattle.whips_flow.specs.Lists.{places_from};
+ghost use Rattle.whips_lists.specs.Lists.{places_from};
 ghost use Rattle.whips_net.specs.Made.{change_key};
 ghost use Rattle.whips_vnl.specs.Records.{steps_or_none};
 ghost use Rattle.whips_store.specs.Versions.{versions_in_use, shows_key, is_free};
 ghost use Rattle.whips_store.specs.Calls.{slot_for};
 ghost use Rattle.whips_store.specs.Sound.{HaveWidth, HasSlotForKey, IsSlot};
 ghost use Rattle.whips_slot_index.specs.Slots.{all_steps, AreKept, row_among};
-ghost use Rattle.whips_model.specs.Members.{Has};
+ghost use Rattle.whips_lists.specs.Members.{Has};
 ghost use Rattle.whips_slot_index.specs.Indexes.{is_among, IsIndex, AreVisited, IsNotedAt, ForgetsAt, IsKeyVisited, IsSlotVisited, IsTaken, unknown_keys};
 
 use crate::slots::{is_slot_free, newest_row, nothing_at, row_in_use, shows_change};

@@ -3,7 +3,7 @@ ghost use Rattle.std.specs.Prelude.{◌≡◌, ◌<◌, ◌≤◌, ◌+◌, ◌^
 ghost use Rattle.std.specs.List.{position, list_any, list_all};
 ghost use Rattle.std.specs.Option.{option_copied};
 ghost use Rattle.whips_model.specs.Tuples.{has_key};
-ghost use Rattle.whips_flow.specs.Lists.{places_from};
+ghost use Rattle.whips_lists.specs.Lists.{places_from};
 ghost use Rattle.whips_net.specs.Made.{change_key};
 ghost use Rattle.whips_vnl.specs.Records.{leading_steps, shown_of, steps_or_none, visible};
 ghost use Rattle.whips_store.specs.Versions.{versions_in_use, row_seen, is_row_of, is_nothing, shows_key, is_older, is_free};

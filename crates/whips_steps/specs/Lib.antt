@@ -1,3 +1,4 @@
 pub mod Steps
 pub mod Answers
+pub mod Filled
 pub mod Laws

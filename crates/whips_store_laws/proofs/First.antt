@@ -4,10 +4,10 @@ use Rattle.std.specs.Prelude.{reverse, replicate}
 use Rattle.std.specs.List.{All, AllByRecursion, cons_option, filter_map}
 use Rattle.std.proofs.lemmas.Bool.{le-leb, lt-ltb}
 use Rattle.std.proofs.lemmas.Cmp.{nat_list_cmp_total, tied_itself}
-use Rattle.whips_model.specs.Members.{Has}
+use Rattle.whips_lists.specs.Members.{Has}
 use Rattle.whips_model.specs.Tuples.{Codes, Columns, at_columns, row_at, IsKeyed}
 use Rattle.whips_model.specs.Relation.{IsTable}
-use Rattle.whips_model.proofs.Members.{has_either, has_cases, has_none, has_before}
+use Rattle.whips_lists.proofs.Members.{has_either, has_cases, has_none, has_before}
 use Rattle.whips_trans_laws.proofs.ByKey.{row_of_key}
 use Rattle.whips_changes.specs.Changes.{union_rows, net_changes}
 use Rattle.whips_net.proofs.Merge.{puts, puts_all, net_of, net_is, both_first, tied_self}

@@ -5,11 +5,11 @@ use Rattle.std.specs.List.{cons_option, AllByRecursion}
 use Rattle.std.specs.declared.cmp.Ordering.TheVariants.{Less, Equal}
 use Rattle.std.proofs.lemmas.Bool.{cases_lt, le-leb}
 use Rattle.std.proofs.lemmas.List.{length-set}
-use Rattle.whips_model.specs.Members.{Has}
+use Rattle.whips_lists.specs.Members.{Has}
 use Rattle.whips_model.specs.Tuples.{Codes, codes_cmp, at_columns, row_at, IsKeyed}
 use Rattle.whips_model.specs.Relation.{IsTable}
 use Rattle.whips_model.proofs.Keyed.{all_at, keyed_at}
-use Rattle.whips_model.proofs.Members.{has_at, has_either, has_cases, has_none, has_before, all_has}
+use Rattle.whips_lists.proofs.Members.{has_at, has_either, has_cases, has_none, has_before, all_has}
 use Rattle.whips_choices.proofs.Rows.{codes_tied, row_found}
 use Rattle.whips_trans_laws.proofs.ByKey.{row_of_key}
 use Rattle.whips_rel.specs.declared.update.Change.{Change}
@@ -117,7 +117,7 @@ pub none_written : (cols : List ℕ) (n phase c : ℕ) (new : List Codes) (recor
 none_written cols n phase c new records le h = all_mapped (IsSlot n phase) (λ steps. is_older c steps ≡ false → IsWritten cols n c new steps) records
     (λ steps s f. absurd (let t = within_older phase c steps s.within le in cc)) h
 
-next_same : (n phase c : ℕ) (records : List (List Vstep)) → (phase + 1) / 2 ≤ c → AllByRecursion (IsSlot n phase) records → rows_at n (suc c) records ≡ rows_at n c records
+pub next_same : (n phase c : ℕ) (records : List (List Vstep)) → (phase + 1) / 2 ≤ c → AllByRecursion (IsSlot n phase) records → rows_at n (suc c) records ≡ rows_at n c records
 next_same n phase c [] le h = refl
 next_same n phase c (steps ∷ records) le h =
     ap (λ s. cons_option (row_seen s) (rows_at n (suc c) records)) (below_same n c steps (older_below c steps (within_older phase c steps h.0.within le)))

@@ -4,7 +4,7 @@ use Rattle.std.specs.List.{AllByRecursion}
 use Rattle.whips_model.specs.Tuples.{Codes, Columns}
 use Rattle.whips_model.specs.Relation.{IsTable}
 use Rattle.whips_vnl.specs.Records.{seen_past}
-use Rattle.whips_vnl.specs.Staleness.{IsStale}
+use Rattle.whips_flow.specs.Staleness.{IsStale}
 use Rattle.whips_store.specs.Stores.{StoreState, ChangeLists, view_in, changes_left, seen_in}
 use Rattle.whips_store.specs.Calls.{AreNet, AreRowsWithin, shortage, begun, changed_once, published}
 use Rattle.whips_store.specs.First.{first_view}

@@ -7,24 +7,16 @@ use Rattle.std.specs.declared.cmp.Ordering.TheVariants.{Less, Equal, Greater}
 use Rattle.std.proofs.lemmas.Bool.{cases_eq}
 use Rattle.std.proofs.lemmas.List.{take_all}
 use Rattle.whips_model.specs.Tuples.{Codes, at_columns, codes_cmp}
-use Rattle.whips_model.specs.Members.{Has}
+use Rattle.whips_lists.specs.Members.{Has}
 use Rattle.whips_choices.specs.KeyedViews.{KeyedView}
 use Rattle.whips_choices.specs.Partials.{Partial}
 use Rattle.whips_choices.proofs.Rows.{codes_equal, codes_tied}
 use Rattle.whips_steps.specs.Steps.{home, asked_sources, is_filled}
 use Rattle.whips_steps.specs.Answers.{DifferInKey, AllDifferInKey}
-use Rattle.whips_managers.specs.Messages.{IsFilledBefore}
+use Rattle.whips_steps.specs.Filled.{IsFilledBefore}
 use Rattle.whips_strobe.specs.Fitting.{is_filled_as, are_filled_before, is_filled_before, differ_at, differ_below, all_differ}
 
 -- ---- which parts are filled
-
-pub asked_next : (xs : List ℕ) (step source : ℕ) (b : Bool) → 1 ≤ length xs → 0 < step → slice_index xs 0 ≢ source → b ≡ list_any (λ s. s == source) (take (step - 1) (take (length xs - 1) (drop 1 xs))) → b ≡ list_any (λ s. s == source) (take step xs)
-asked_next [] step source b size lt ne is = absurd (omega arith)
-asked_next (x ∷ xs) zero source b size lt ne is = absurd (omega arith)
-asked_next (x ∷ xs) (suc step) source b size lt ne is =
-    let back : suc step - 1 ≡ step = omega arith in
-    let all : take (suc (length xs) - 1) xs ≡ xs = take_all (suc (length xs) - 1) xs (omega arith) in
-    is ∙ ap₂ (λ n (l : List ℕ). list_any (λ s. s == source) (take n l)) back all ∙ ap (λ z. z || list_any (λ s. s == source) (take step xs)) (sym (ne_eqb x source ne))
 
 module _ (v : KeyedView) (origin step part : ℕ) where
   pub filled_origin : part ≡ origin → (part == origin) ≡ is_filled v origin (step + 1) part
@@ -101,6 +93,14 @@ module _ (v : KeyedView) (widths : List ℕ) (origin step : ℕ) (p : Partial) w
   below_from zero h = refl
   below_from (suc n) h = ap₂ (λ a b. a && b) (below_from n (λ part lt. h part (omega arith))) (h n (omega arith))
 
+  -- a part isn't as it is to be
+  pub part_missed : (n part : ℕ) → part < n → is_right part ≡ false → are_filled_before v widths origin step p n ≡ false
+  part_missed n part lt wrong = go (are_filled_before v widths origin step p n) refl
+    where
+      go : (b : Bool) → are_filled_before v widths origin step p n ≡ b → b ≡ false
+      go false e = refl
+      go true e = let no : true ≡ false = sym (below_to n part lt e) ∙ wrong in absurd (cc)
+
   filled_to : is_filled_before v widths origin step p ≡ true → IsFilledBefore v widths origin step p
   filled_to h =
       let both = and_both (length p == length v.keys) (are_filled_before v widths origin step p (length v.keys)) h in
@@ -160,6 +160,15 @@ module _ (keys : List (List ℕ)) (p q : Partial) where
     where
       go : (d.part < n → differ_below keys p q n ≡ true) → (d.part ≡ n) ⊎ (d.part ≢ n) → differ_below keys p q (suc n) ≡ true
       go ih (inl e) = ap (λ b. differ_below keys p q n || b) (subst (λ i. differ_at (slice_index_or keys i []) (slice_index_or p i None) (slice_index_or q i None) ≡ true) e (at_from d)) ∙ or_right (differ_below keys p q n)
+      go ih (inr ne) = ap (λ b. b || differ_at (slice_index_or keys n []) (slice_index_or p n None) (slice_index_or q n None)) (ih (omega arith))
+
+  -- they differ in the key of a part
+  pub found_different : (n part : ℕ) → part < n → differ_at (slice_index_or keys part []) (slice_index_or p part None) (slice_index_or q part None) ≡ true → differ_below keys p q n ≡ true
+  found_different zero part lt h = absurd (omega arith)
+  found_different (suc n) part lt h = go (λ below. found_different n part below h) (cases_eq part n)
+    where
+      go : (part < n → differ_below keys p q n ≡ true) → (part ≡ n) ⊎ (part ≢ n) → differ_below keys p q (suc n) ≡ true
+      go ih (inl e) = ap (λ b. differ_below keys p q n || b) (subst (λ i. differ_at (slice_index_or keys i []) (slice_index_or p i None) (slice_index_or q i None) ≡ true) e h) ∙ or_right (differ_below keys p q n)
       go ih (inr ne) = ap (λ b. b || differ_at (slice_index_or keys n []) (slice_index_or p n None) (slice_index_or q n None)) (ih (omega arith))
 
   pair_from : DifferInKey keys p q → differ_below keys p q (length keys) ≡ true

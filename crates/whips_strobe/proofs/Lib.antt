@@ -6,3 +6,4 @@ pub mod Sound
 pub mod Wide
 pub mod Fitted
 mod Strikes
+pub mod Routes

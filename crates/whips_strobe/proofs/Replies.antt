@@ -1,4 +1,10 @@
 -- What is asked, and what a reply makes of a manager.
+--
+-- `reply_moves` and `reply_ends`: with the query of the reply's name at a place, the query moved on there, or taken out there with its rows put, is the manager after the reply. `asks_at`: what is asked then is the next step of the query at that place. `open_at`: that query is open at the reply's step where it has this step.
+--
+-- The idea: the definitions walk along the queries to the first one with the name and keep those before it. Names rise along the queries, so the one that a search finds is the first and the only one, and both walks stop there.
+--
+-- Four lemmas carry it: `named_at` (the query at the place), `reply_behind` (the walk of a reply), `replied_at` (the query that a fitting reply is for) and `steps_bound` (no more steps than relations).
 use Rattle.std.proofs.Common.{◌≡◌, ℕ, zero, suc, ◌+◌, ◌<◌, ◌≤◌, ◌==◌, ◌&&◌, ◌||◌, Bool, true, false, cond, Option, Some, None, List, [], ◌∷◌, ◌++◌, length, map, take, drop, fold, not, refl, sym, ap, ap₂, subst, ◌∙◌, arith, append_assoc, append-nil, add-one, eqb-true}
 use Rattle.std.specs.Prelude.{slice_get, IfSome}
 use Rattle.std.specs.Option.{option_map}
@@ -13,14 +19,15 @@ use Rattle.whips_model.specs.Tuples.{Columns}
 use Rattle.whips_choices.specs.KeyedViews.{KeyedView}
 use Rattle.whips_choices.specs.Partials.{Partial}
 use Rattle.whips_choices.proofs.Rows.{codes_tied}
-use Rattle.whips_states.specs.States.{changed_at}
-use Rattle.whips_steps.specs.Steps.{StepData, numbers_below, put_number, home, other_parts, steps, asked_sources, source_of_step, parts_of_source}
+use Rattle.whips_lists.specs.Lists.{changed_at, places_from}
+use Rattle.whips_lists.proofs.Places.{length_places}
+use Rattle.whips_steps.specs.Steps.{StepData, put_number, home, other_parts, steps, asked_sources, source_of_step, parts_of_source}
 use Rattle.whips_steps.specs.Answers.{unstruck}
 use Rattle.whips_query.specs.declared.asks.Ask.{Ask}
 use Rattle.whips_managers.specs.Managers.{Query, ManagerState, is_named, has_next, moved_on, put_of, with_reply, with_reply_behind, with_reply_to, with_step, with_answer}
 use Rattle.whips_managers.specs.Messages.{ask_of, asks_after, next_asks}
-use Rattle.whips_queries.specs.Names.{name_codes, IsNamedBelow, AreInOrder, place_named}
-use Rattle.whips_queries.proofs.Found.{named_is}
+use Rattle.whips_open_queries.specs.Names.{name_codes, IsNamedBelow, AreInOrder, place_named}
+use Rattle.whips_open_queries.proofs.Found.{named_is}
 use Rattle.whips_strobe.specs.Outs.{sent_by, all_sent_by}
 
 or_none : (b : Bool) → (b || false) ≡ b
@@ -238,18 +245,14 @@ filter_length : {X : Type 0} (test : X → Bool) (xs : List X) → length (filte
 filter_length test [] = omega arith
 filter_length {X} test (x ∷ xs) = let ih = filter_length test xs in elim (test x) as (λ b. length {A = X} (cond b (x ∷ filter test xs) (filter test xs)) ≤ suc (length xs)) [ true ↦ omega arith | false ↦ omega arith ]
 
-below_length : (n : ℕ) → length (numbers_below n) ≡ n
-below_length zero = refl
-below_length (suc n) = let ih = below_length n in omega (arith, length-append (numbers_below n) (n ∷ []))
-
 -- no more than the view's relations
 pub steps_bound : (v : KeyedView) (origin : ℕ) → length (asked_sources v origin) ≤ length v.keys
 unfolding asked_sources
 steps_bound v origin =
     let a = rising_length (map (home v) (other_parts (length v.keys) origin)) [] in
     let b = length-map (other_parts (length v.keys) origin) (home v) in
-    let c = filter_length (λ part. not (part == origin)) (numbers_below (length v.keys)) in
-    let d = below_length (length v.keys) in
+    let c = filter_length (λ part. not (part == origin)) (places_from 0 (length v.keys)) in
+    let d = length_places 0 (length v.keys) in
     omega arith
 
 -- ---- the query that a reply is for
@@ -292,9 +295,6 @@ replied_at m inside transaction origin step i same e order opened =
       step_is = eqb-true found.0.step step (sym (open_at transaction origin step m.queries i found.0 (subst AreInOrder same order) place found.1) ∙ opened);
     }
 
-pub count_steps : (v : KeyedView) (origin : ℕ) (items : List StepData) → items ≡ steps v origin → length items ≡ length (asked_sources v origin)
-count_steps v origin items e = ap length e ∙ length-map (asked_sources v origin) (λ source. record { source = source; parts = parts_of_source v origin source })
-
 module _ (v : KeyedView) (m : ManagerState) (transaction origin step i : ℕ) (r : IsRepliedAt m transaction origin step i) where
   count_same : length (asked_sources v r.query.origin) ≡ length (asked_sources v origin)
   count_same = ap (λ o. length (asked_sources v o)) r.origin_is
@@ -304,13 +304,3 @@ module _ (v : KeyedView) (m : ManagerState) (transaction origin step i : ℕ) (r
 
   pub has_no_next : length (asked_sources v origin) ≤ step → has_next v r.query ≡ false
   has_no_next le = let is = r.step_is in let count = count_same in le-ltb r.query.step (length (asked_sources v r.query.origin)) (omega arith)
-
--- a view has few relations
-pub few_relations : (parts : ViewData) → are_within parts ≡ true → length parts.relations ≤ 4
-few_relations parts e =
-    let a = and_parts _ _ e in
-    let b = and_parts _ _ a.0 in
-    let c = and_parts _ _ b.0 in
-    let d = and_parts _ _ c.0 in
-    let f = and_parts _ _ d.0 in
-    leb-true (length parts.relations) 4 f.1

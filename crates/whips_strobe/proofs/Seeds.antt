@@ -12,7 +12,7 @@ use Rattle.whips_steps.specs.Steps.{StepData, steps, parts_of_source, asked_sour
 use Rattle.whips_steps.specs.Answers.{IsWhole, AllDifferInKey}
 use Rattle.whips_steps.proofs.Fills.{differ_rows}
 use Rattle.whips_steps.proofs.Stepping.{all_filled, filled_first}
-use Rattle.whips_managers.specs.Messages.{IsFilledBefore}
+use Rattle.whips_steps.specs.Filled.{IsFilledBefore}
 
 module _ (v : KeyedView) (part : ℕ) (lt : part < length v.keys) where
   seed_filled : (t : Codes) (j : ℕ) → is_some (slot (seed (length v.keys) part t) j) ≡ is_filled v part 1 j
@@ -58,13 +58,10 @@ module _ (v : KeyedView) (part : ℕ) (lt : part < length v.keys) where
       let w : length {A = Option Codes} (replicate (length v.keys) None) ≡ length v.keys = length-replicate (length v.keys) None in
       differ_rows v.keys (replicate (length v.keys) None) part ts (omega arith) keyed
 
--- without a step no source is asked
-pub steps_none : (v : KeyedView) (part : ℕ) (items : List StepData) → items ≡ steps v part → length items ≡ 0 → asked_sources v part ≡ []
-steps_none v part items e size = go (asked_sources v part) (ap length (sym e) ∙ size)
-  where
-    go : (l : List ℕ) → length {A = StepData} (map (λ source. record { source = source; parts = parts_of_source v part source }) l) ≡ 0 → l ≡ []
-    go [] h = refl
-    go (s ∷ l) h = absurd (omega arith)
+-- a list of no element
+pub none_asked : (sources : List ℕ) → length sources ≡ 0 → sources ≡ []
+none_asked [] e = refl
+none_asked (s ∷ sources) e = absurd (omega arith)
 
 -- what is filled up to a step past the last one is whole
 pub all_whole : (v : KeyedView) (widths : List ℕ) (origin step : ℕ) (ps : List Partial) → length (asked_sources v origin) < step → AllByRecursion (IsFilledBefore v widths origin step) ps → AllByRecursion (IsWhole (length v.keys)) ps

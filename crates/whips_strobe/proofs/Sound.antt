@@ -1,34 +1,43 @@
 -- What a manager does keeps its state sound.
+--
+-- `sound_transaction` and `sound_reply`: after a transaction that fits the view, and after a reply that fits the manager, the actions are the view's, no query is of a later transaction than the last one, and each query can be asked. `asks_sound` and `sound_asked`: so all that is asked then is about a step of the view, at its source.
+--
+-- The idea: a new query begins at its first step with seeds of its part, which are keyed and as wide as the part's relation. A query that moves on takes the choices of a reply that fits, and these are filled for the next step and differ in keys. Deletions change pending keys alone.
+--
+-- Four lemmas carry it: `given_widths` and `given_keyed` (what a transaction gives a part), `sound_given` (a query begins, or its rows are put) and `moved_sound` (a query moves on).
 use Rattle.std.proofs.Common.{◌≡◌, ℕ, zero, suc, ◌+◌, ◌<◌, ◌≤◌, Bool, true, false, cond, Option, Some, None, List, [], ◌∷◌, ◌++◌, length, map, drop, refl, sym, ap, subst, ◌∙◌, arith}
 use Rattle.std.specs.Prelude.{slice_get, slice_index, IfSome}
 use Rattle.std.specs.List.{AllByRecursion, flat_map, range_with_len, remove}
 use Rattle.std.proofs.lemmas.List.{length-map}
 use Rattle.whips_model.specs.Tuples.{Codes, Columns, at_columns, IsKeyed}
-use Rattle.whips_model.specs.Members.{Has}
-use Rattle.whips_model.proofs.Members.{has_first, has_later, has_passed, all_has, all_from_has}
+use Rattle.whips_lists.specs.Members.{Has}
+use Rattle.whips_lists.proofs.Members.{has_first, has_later, has_passed, all_has, all_from_has}
 use Rattle.whips_model.proofs.Keyed.{keyed_filter}
 use Rattle.whips_choices.specs.KeyedViews.{KeyedView, part_key}
 use Rattle.whips_choices.specs.Partials.{Partial, seed}
 use Rattle.whips_rel.specs.declared.update.Update.{Update}
 use Rattle.whips_rel.specs.declared.update.Update.TheVariants.{Insert}
-use Rattle.whips_states.specs.States.{Updates, changed_at}
+use Rattle.whips_states.specs.States.{Updates}
+use Rattle.whips_lists.specs.Lists.{changed_at, places_from}
 use Rattle.whips_states.specs.Concerns.{meets_part}
 use Rattle.whips_states.specs.Net.{names, last_of_key, or_else, given_at, taken_at, taken, relation_at}
 use Rattle.whips_trans_laws.proofs.Nets.{inserted_last}
-use Rattle.whips_steps.specs.Steps.{numbers_below, asked_sources}
+use Rattle.whips_steps.specs.Steps.{asked_sources}
 use Rattle.whips_steps.specs.Answers.{AllDifferInKey}
-use Rattle.whips_steps.proofs.Stepping.{below_is}
+use Rattle.whips_lists.proofs.Places.{below_is}
 use Rattle.whips_view.specs.ViewDefs.{View, keyed, row_columns}
 use Rattle.whips_actions.specs.declared.action.Action.{Action}
 use Rattle.whips_actions.specs.Lists.{IsActionOf, AreActionsOf}
 use Rattle.whips_managers.specs.Managers.{Query, ManagerState, with_pending, with_deletion, with_deletions, with_given, with_put, with_query, with_all_given, with_transaction, put_or_asked, moved_on, has_next, with_reply, kept_where, list_where, without_list}
-use Rattle.whips_managers.specs.Messages.{IsFilledBefore, CanAsk, AllCanAsk, widths_of, HasWidth, HaveWidths, Fits, ask_of, asks_after}
+use Rattle.whips_steps.specs.Filled.{IsFilledBefore}
+use Rattle.whips_view.specs.Widths.{widths_of}
+use Rattle.whips_managers.specs.Messages.{CanAsk, AllCanAsk, HasWidth, HaveWidths, Fits, ask_of, asks_after}
 use Rattle.whips_strobe.specs.Strobes.{IsStateOf}
-use Rattle.whips_strobe.specs.Outs.{all_sent_by, list_by, IsAskOf}
+use Rattle.whips_strobe.specs.Outs.{all_sent_by, list_by, IsSentAsk}
 use Rattle.whips_actions.specs.declared.action.ActionList.{ActionList}
 use Rattle.std.specs.Option.{option_map}
 use Rattle.std.proofs.lemmas.Bool.{ltb-true}
-use Rattle.whips_queries.specs.Names.{AreInOrder, place_named}
+use Rattle.whips_open_queries.specs.Names.{AreInOrder, place_named}
 use Rattle.whips_strobe.proofs.Seeds.{seeds_filled, seeds_differ}
 use Rattle.whips_strobe.proofs.Replies.{IsRepliedAt, replied_at, reply_lost, reply_moves, reply_ends, asks_at, asks_lost, all_get}
 
@@ -182,7 +191,7 @@ module _ (view : View) where
       let deleted = sound_deleted (taken (keyed view) t) (record m { last = number }) (taken_within t) numbered in
       let last = last_deleted (taken (keyed view) t) (record m { last = number }) in
       let w = width in
-      sound_all_given number t (numbers_below (length (keyed view).keys)) (with_deletions (record m { last = number }) (taken (keyed view) t)) widths
+      sound_all_given number t (places_from 0 (length (keyed view).keys)) (with_deletions (record m { last = number }) (taken (keyed view) t)) widths
       (λ part g. let b = below_is (length (keyed view).keys) part g in omega arith) (omega arith) deleted
 
   pub all_below : (m : ManagerState) (number : ℕ) → m.last < number → IsStateOf view m → AllByRecursion (λ q. q.transaction < number) m.queries
@@ -203,12 +212,12 @@ module _ (view : View) where
 
   -- ---- asks
 
-  pub asks_sound : (number first : ℕ) (m : ManagerState) → IsStateOf view m → AllByRecursion (IsAskOf view) (all_sent_by number (map (ask_of (keyed view)) (drop first m.queries)))
+  pub asks_sound : (number first : ℕ) (m : ManagerState) → IsStateOf view m → AllByRecursion (IsSentAsk view) (all_sent_by number (map (ask_of (keyed view)) (drop first m.queries)))
   asks_sound number first m h = go (drop first m.queries) (all_drop (CanAsk (keyed view) (widths_of view)) m.queries first h.queries)
     where
-      go : (qs : List Query) → AllCanAsk (keyed view) (widths_of view) qs → AllByRecursion (IsAskOf view) (all_sent_by number (map (ask_of (keyed view)) qs))
+      go : (qs : List Query) → AllCanAsk (keyed view) (widths_of view) qs → AllByRecursion (IsSentAsk view) (all_sent_by number (map (ask_of (keyed view)) qs))
       go [] g = tt
-      go (q ∷ qs) g = (let a = g.0 in record { origin = at_base q.origin a.origin; first = a.low; last = a.high; source = refl; filled = a.filled }, go qs g.1)
+      go (q ∷ qs) g = (let a = g.0 in record { ask = record { origin = at_base q.origin a.origin; first = a.low; last = a.high; filled = a.filled }; source = refl }, go qs g.1)
 
   -- ---- a reply
 
@@ -246,18 +255,18 @@ module _ (view : View) where
     pub sound_reply : AreInOrder m.queries → IsStateOf view (with_reply (keyed view) (row_columns view) m transaction origin ps)
     sound_reply order = after_reply order (place_named transaction origin m.queries) refl
 
-    asked_after : (number : ℕ) → AreInOrder m.queries → (o : Option ℕ) → place_named transaction origin m.queries ≡ o → AllByRecursion (IsAskOf view) (all_sent_by number (asks_after (keyed view) m.queries transaction origin ps))
-    asked_after number order None e = subst (λ l. AllByRecursion (IsAskOf view) (all_sent_by number l)) (sym (asks_lost transaction origin (keyed view) ps m.queries e)) tt
-    asked_after number order (Some i) e = subst (λ l. AllByRecursion (IsAskOf view) (all_sent_by number l)) (sym (asks_at transaction origin (keyed view) ps m.queries i r.query r.place r.at)) (go (has_next (keyed view) r.query) refl)
+    asked_after : (number : ℕ) → AreInOrder m.queries → (o : Option ℕ) → place_named transaction origin m.queries ≡ o → AllByRecursion (IsSentAsk view) (all_sent_by number (asks_after (keyed view) m.queries transaction origin ps))
+    asked_after number order None e = subst (λ l. AllByRecursion (IsSentAsk view) (all_sent_by number l)) (sym (asks_lost transaction origin (keyed view) ps m.queries e)) tt
+    asked_after number order (Some i) e = subst (λ l. AllByRecursion (IsSentAsk view) (all_sent_by number l)) (sym (asks_at transaction origin (keyed view) ps m.queries i r.query r.place r.at)) (go (has_next (keyed view) r.query) refl)
       where
         r : IsRepliedAt m transaction origin step i
         r = replied_at m m.queries transaction origin step i refl (sym e) order fits.open_query
 
-        go : (b : Bool) → has_next (keyed view) r.query ≡ b → AllByRecursion (IsAskOf view) (all_sent_by number (cond b (ask_of (keyed view) (moved_on r.query ps) ∷ []) []))
-        go true next = let a = moved_sound i r next in (record { origin = at_base r.query.origin a.origin; first = a.low; last = a.high; source = refl; filled = a.filled }, tt)
+        go : (b : Bool) → has_next (keyed view) r.query ≡ b → AllByRecursion (IsSentAsk view) (all_sent_by number (cond b (ask_of (keyed view) (moved_on r.query ps) ∷ []) []))
+        go true next = let a = moved_sound i r next in (record { ask = record { origin = at_base r.query.origin a.origin; first = a.low; last = a.high; filled = a.filled }; source = refl }, tt)
         go false next = tt
 
-    pub sound_asked : (number : ℕ) → AreInOrder m.queries → AllByRecursion (IsAskOf view) (all_sent_by number (asks_after (keyed view) m.queries transaction origin ps))
+    pub sound_asked : (number : ℕ) → AreInOrder m.queries → AllByRecursion (IsSentAsk view) (all_sent_by number (asks_after (keyed view) m.queries transaction origin ps))
     sound_asked number order = asked_after number order (place_named transaction origin m.queries) refl
 
   pub list_sound : (number : ℕ) (m : ManagerState) → IsStateOf view m → IfSome (list_by number m) (λ (l : ActionList). AreActionsOf view l.actions)

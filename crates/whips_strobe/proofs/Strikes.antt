@@ -1,16 +1,17 @@
 -- A choice has a pending key exactly where the look-up at one of its parts finds one.
-use Rattle.std.proofs.Common.{◌≡◌, inl, inr, ℕ, zero, suc, ◌≤◌, Bool, true, false, ◌&&◌, ◌||◌, nat_eq, nat_lt, Option, Some, None, List, [], ◌∷◌, length, refl, sym, ap, ap₂, subst, ◌∙◌, arith}
-use Rattle.std.specs.Prelude.{slice_get, slice_index_or}
+use Rattle.std.proofs.Common.{◌≡◌, ◌⊎◌, inl, inr, ℕ, zero, suc, ◌<◌, ◌≤◌, map, Bool, true, false, ◌&&◌, ◌||◌, nat_eq, nat_lt, Option, Some, None, List, [], ◌∷◌, length, refl, sym, ap, ap₂, subst, ◌∙◌, arith}
+use Rattle.std.specs.Prelude.{slice_get, slice_index, slice_index_or}
 use Rattle.std.specs.List.{list_any, AllByRecursion}
 use Rattle.std.specs.Cmp.Lexicographic.{texts_ties}
 use Rattle.std.proofs.lemmas.Bool.{cases_eq}
 use Rattle.std.proofs.lemmas.Bool.Decides.{nat_tests}
-use Rattle.whips_model.specs.Tuples.{Codes, at_columns}
+use Rattle.whips_model.specs.Tuples.{Codes, Columns, at_columns}
 use Rattle.whips_choices.specs.KeyedViews.{KeyedView}
 use Rattle.whips_choices.specs.Partials.{Partial}
 use Rattle.whips_steps.specs.Answers.{is_key, has_key_at, IsWhole}
-use Rattle.whips_queries.specs.Deletions.{is_entry}
-use Rattle.whips_strobe.specs.Strikes.{is_struck_at, is_struck_below}
+use Rattle.whips_steps.specs.Filled.{IsFilledBefore}
+use Rattle.whips_open_queries.specs.Deletions.{is_entry}
+use Rattle.whips_strobe.specs.Strikes.{HasWidths, is_struck_at, is_struck_below}
 
 or_swap : (a b c d : Bool) → ((a || b) || (c || d)) ≡ ((a || c) || (b || d))
 or_swap true b c d = refl
@@ -105,9 +106,50 @@ module _ (v : KeyedView) (p : Partial) where
   struck_is [] n le = none_below n
   struck_is (e ∷ es) n le = more_below e es n ∙ ap₂ (λ a b. a || b) (one_below e n ∙ one_whole e n le) (struck_is es n le)
 
--- the look-ups at the first n parts, where those before the last find nothing
-pub last_below : (keys : List (List ℕ)) (pending : List (ℕ × Codes)) (p : Partial) (m n : ℕ) → n ≡ suc m → is_struck_below keys pending p m ≡ false → is_struck_at pending m (slice_index_or keys m []) (slice_index_or p m None) ≡ is_struck_below keys pending p n
-last_below keys pending p m n e earlier = subst (λ k. is_struck_at pending m (slice_index_or keys m []) (slice_index_or p m None) ≡ is_struck_below keys pending p k) (sym e) (sym (ap (λ b. b || is_struck_at pending m (slice_index_or keys m []) (slice_index_or p m None)) earlier))
+-- the look-up at a part finds a pending key
+or_true : (b : Bool) → (b || true) ≡ true
+or_true true = refl
+or_true false = refl
+
+pub found_struck : (keys : List (List ℕ)) (pending : List (ℕ × Codes)) (p : Partial) (n part : ℕ) → part < n → is_struck_at pending part (slice_index_or keys part []) (slice_index_or p part None) ≡ true → is_struck_below keys pending p n ≡ true
+found_struck keys pending p zero part lt h = absurd (omega arith)
+found_struck keys pending p (suc n) part lt h = go (λ below. found_struck keys pending p n part below h) (cases_eq part n)
+  where
+    go : (part < n → is_struck_below keys pending p n ≡ true) → (part ≡ n) ⊎ (part ≡ n → ⊥) → is_struck_below keys pending p (suc n) ≡ true
+    go ih (inl e) = ap (λ b. is_struck_below keys pending p n || b) (subst (λ i. is_struck_at pending i (slice_index_or keys i []) (slice_index_or p i None) ≡ true) e h) ∙ or_true (is_struck_below keys pending p n)
+    go ih (inr ne) = ap (λ b. b || is_struck_at pending n (slice_index_or keys n []) (slice_index_or p n None)) (ih (omega arith))
+
+-- the tuple of a part has the width of its relation
+pub wide_tuple : (bases : List Columns) (p : Partial) (part : ℕ) (base : Columns) (t : Codes) → HasWidths (map (λ (b : Columns). length b.kinds) bases) p → slice_get bases part ≡ Some base → slice_index_or p part None ≡ Some t → length t ≡ length base.kinds
+wide_tuple bases p part base t wide at is = wide part t is ∙ width_at bases part at
+  where
+    width_at : (bases : List Columns) (part : ℕ) → slice_get bases part ≡ Some base → slice_index (map (λ (b : Columns). length b.kinds) bases) part ≡ length base.kinds
+    width_at [] part e = absurd (cc)
+    width_at (b ∷ bases) zero e = let same : b ≡ base = cc in ap (λ (z : Columns). length z.kinds) same
+    width_at (b ∷ bases) (suc part) e = width_at bases part e
+
+-- the look-up of the key of a part's tuple
+pub struck_there : (bases : List Columns) (pending : List (ℕ × Codes)) (p : Partial) (part : ℕ) (base : Columns) (t k : Codes) (b : Bool) → slice_get bases part ≡ Some base → slice_index_or p part None ≡ Some t → k ≡ at_columns base.key t → b ≡ list_any (is_entry (part, k)) pending
+    → b ≡ is_struck_at pending part (slice_index_or (map (λ (c : Columns). c.key) bases) part []) (slice_index_or p part None)
+struck_there bases pending p part base t k b at is key found =
+    found
+    ∙ ap (λ z. list_any (is_entry (part, z)) pending) (key ∙ ap (λ columns. at_columns columns t) (sym (key_at bases part at)))
+    ∙ sym (ap (is_struck_at pending part (slice_index_or (map (λ (c : Columns). c.key) bases) part [])) is)
+  where
+    key_at : (bases : List Columns) (part : ℕ) → slice_get bases part ≡ Some base → slice_index_or (map (λ (c : Columns). c.key) bases) part [] ≡ base.key
+    key_at [] part e = absurd (cc)
+    key_at (c ∷ bases) zero e = let same : c ≡ base = cc in ap (λ (z : Columns). z.key) same
+    key_at (c ∷ bases) (suc part) e = key_at bases part e
+
+-- tuples that are as a step's partial choices are to be have their relations' widths
+pub filled_wide : (v : KeyedView) (widths : List ℕ) (origin step : ℕ) (ps : List Partial) → AllByRecursion (IsFilledBefore v widths origin step) ps → AllByRecursion (HasWidths widths) ps
+filled_wide v widths origin step [] h = tt
+filled_wide v widths origin step (p ∷ ps) h = (h.0.tuples, filled_wide v widths origin step ps h.1)
+
+pub wide_at : (widths : List ℕ) (ps : List Partial) (i : ℕ) (p : Partial) → AllByRecursion (HasWidths widths) ps → slice_get ps i ≡ Some p → HasWidths widths p
+wide_at widths [] i p h e = absurd (cc)
+wide_at widths (q ∷ ps) zero p h e = let same : q ≡ p = cc in subst (λ (z : Partial). HasWidths widths z) same h.0
+wide_at widths (q ∷ ps) (suc i) p h e = wide_at widths ps i p h.1 e
 
 -- each choice has a place for each part
 pub whole_at : (n : ℕ) (ps : List Partial) (i : ℕ) (p : Partial) → AllByRecursion (IsWhole n) ps → slice_get ps i ≡ Some p → length p ≡ n

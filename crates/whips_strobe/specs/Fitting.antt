@@ -20,6 +20,10 @@ are_filled_before v widths origin step p (suc n) = are_filled_before v widths or
 abbrev pub is_filled_before : KeyedView → List ℕ → ℕ → ℕ → Partial → Bool
 is_filled_before v widths origin step p = (length p == length v.keys) && are_filled_before v widths origin step p (length v.keys)
 
+-- Whether each of the partial choices is.
+abbrev pub are_all_filled_before : KeyedView → List ℕ → ℕ → ℕ → List Partial → Bool
+are_all_filled_before v widths origin step partials = list_all (is_filled_before v widths origin step) partials
+
 -- Whether both are filled, by tuples that differ in the key.
 abbrev pub differ_at : List ℕ → Option Codes → Option Codes → Bool
 differ_at key None q = false
@@ -31,7 +35,15 @@ abbrev pub differ_below : List (List ℕ) → Partial → Partial → ℕ → Bo
 differ_below keys p q zero = false
 differ_below keys p q (suc n) = differ_below keys p q n || differ_at (slice_index_or keys n []) (slice_index_or p n None) (slice_index_or q n None)
 
+-- Whether two partial choices differ in the key of a part that both have.
+abbrev pub are_different : List (List ℕ) → Partial → Partial → Bool
+are_different keys p q = differ_below keys p q (length keys)
+
+-- Whether the partial choice differs from each of these in the key of a part that both have.
+abbrev pub differ_from : List (List ℕ) → Partial → List Partial → Bool
+differ_from keys p others = list_all (are_different keys p) others
+
 -- Whether any two of the partial choices differ in the key of a part that both have.
 abbrev pub all_differ : List (List ℕ) → List Partial → Bool
 all_differ keys [] = true
-all_differ keys (p ∷ ps) = list_all (λ q. differ_below keys p q (length keys)) ps && all_differ keys ps
+all_differ keys (p ∷ ps) = differ_from keys p ps && all_differ keys ps

@@ -3,3 +3,4 @@ pub mod Outs
 pub mod Parts
 pub mod Fitting
 pub mod Strikes
+pub mod Routes

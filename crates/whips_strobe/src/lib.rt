@@ -4,6 +4,7 @@
 
 mod fits;
 mod manager;
+mod routed;
 mod state;
 mod strike;
 #[cfg(test)]

@@ -2,13 +2,15 @@
 ghost use Rattle.std.specs.Prelude.{◌≡◌, ◌<◌, ◌↔◌, true, false, IsTrue, IfOk, IfSome, OnOk, OnErr};
 ghost use Rattle.std.specs.List.{AllByRecursion};
 ghost use Rattle.whips_states.specs.Concerns.{concerns};
-ghost use Rattle.whips_view.specs.ViewDefs.{keyed, row_columns};
+ghost use Rattle.whips_view.specs.ViewDefs.{keyed};
 ghost use Rattle.whips_actions.specs.Lists.{AreActionsOf};
-ghost use Rattle.whips_managers.specs.Managers.{new_manager, with_transaction, with_reply, without_list};
-ghost use Rattle.whips_managers.specs.Messages.{new_asks, asks_after, is_open, widths_of, HaveWidths};
-ghost use Rattle.whips_strobe.specs.Strobes.{FitsManager};
-ghost use Rattle.whips_strobe.specs.Outs.{all_sent_by, list_by, IsAskOf};
+ghost use Rattle.whips_managers.specs.Managers.{new_manager, without_list};
+ghost use Rattle.whips_view.specs.Widths.{widths_of};
+ghost use Rattle.whips_managers.specs.Messages.{is_open, HaveWidths};
+ghost use Rattle.whips_strobe.specs.Strobes.{after_transaction, after_reply, asks_begun, asks_on, FitsManager};
+ghost use Rattle.whips_strobe.specs.Outs.{list_by, IsSentAsk};
 
+use crate::routed::RoutedView;
 use crate::state::State;
 use std::alloc::Global;
 use std::marker::Model;
@@ -26,14 +28,13 @@ pub struct Out {
     pub list: Option<ActionList>,
 }
 
-/// The manager of a joined view, after the Strobe algorithm. It keeps its view and the view's number, the number of the
-/// last transaction taken, its action list and its open queries, its allocator and the mark that it is stopped, and no
-/// base relation.
+/// The manager of a joined view, after the Strobe algorithm. It keeps its view with the sources that its queries ask, the
+/// view's number, the number of the last transaction taken, its action list and its open queries, and the mark that it is
+/// stopped, and no base relation.
 #[derive(Drop)]
 pub struct Manager {
     view_number: u32,
-    view: ViewDef,
-    alloc: Global,
+    view: RoutedView,
     stopped: bool,
     state: State,
 }
@@ -44,7 +45,12 @@ impl Model for Manager {
 
     ghost Value = { ManagerData };
 
-    ghost view = { λ m. record { number = m.view_number; view = m.view; stopped = m.stopped; state = m.state } };
+    ghost view = { λ m. record {
+        number = m.view_number;
+        view = m.view;
+        stopped = m.stopped;
+        state = m.state
+    } };
 
     ghost invariant = { λ m. m.stopped ≡ false → IsStateOf m.view m.state };
 }
@@ -52,12 +58,16 @@ impl Model for Manager {
 impl Manager {
     /// The manager of view number `x`, which has taken nothing yet.
     pub fn new(alloc: Global, x: u32, view: &ViewDef) -> Result<Manager, NoMemory>
-        ensures { IfOk result (λ m. m ≡ record { number = x; view = view.now; stopped = false; state = new_manager 0 }) }
+        ensures { IfOk result (λ m. m ≡ record {
+            number = x;
+            view = view.now;
+            stopped = false;
+            state = new_manager 0
+        }) }
     {
         Ok(Manager {
             view_number: x,
-            view: view.copy()?,
-            alloc,
+            view: RoutedView::of(alloc, view.copy()?)?,
             stopped: false,
             state: State::new(alloc),
         })
@@ -72,11 +82,17 @@ impl Manager {
         requires concerns { concerns self.old.view.parts t.now ≡ true }
         requires later { self.old.state.last < number }
         requires widths { HaveWidths (keyed self.old.view) (widths_of self.old.view) t.now }
-        ensures state { OnOk result (self.new ≡ record self.old { state = without_list (with_transaction (keyed self.old.view) (row_columns self.old.view) self.old.state number t.now) }) }
-        ensures asks { IfOk result (λ out. out.asks.items ≡ all_sent_by self.old.number (new_asks (keyed self.old.view) self.old.state (with_transaction (keyed self.old.view) (row_columns self.old.view) self.old.state number t.now))) }
-        ensures list { IfOk result (λ out. out.list ≡ list_by self.old.number (with_transaction (keyed self.old.view) (row_columns self.old.view) self.old.state number t.now)) }
-        ensures asked { IfOk result (λ out. AllByRecursion (IsAskOf self.old.view) out.asks.items) }
-        ensures actions { IfOk result (λ out. IfSome out.list (λ l. AreActionsOf self.old.view l.actions)) }
+        ensures state { OnOk result (self.new ≡ record self.old {
+            state = without_list (after_transaction self.old number t.now)
+        }) }
+        ensures asks { IfOk result (λ out.
+            out.asks.items ≡ asks_begun self.old (after_transaction self.old number t.now)) }
+        ensures list { IfOk result (λ out.
+            out.list ≡ list_by self.old.number (after_transaction self.old number t.now)) }
+        ensures asked { IfOk result (λ out.
+            AllByRecursion (IsSentAsk self.old.view) out.asks.items) }
+        ensures actions { IfOk result (λ out.
+            IfSome out.list (λ l. AreActionsOf self.old.view l.actions)) }
         ensures went_on { OnOk result (self.old.stopped ≡ false) }
         ensures stopped { OnErr result (self.new.stopped ≡ true) }
         ensures number { self.new.number ≡ self.old.number }
@@ -87,10 +103,8 @@ impl Manager {
         }
         self.stopped = true;
         let first = self.state.open_queries();
-        self.state.take(self.alloc, &self.view, number, t)?;
-        let asks = self
-            .state
-            .asks_from(self.alloc, &self.view, self.view_number, first)?;
+        self.state.take_transaction(&self.view, number, t)?;
+        let asks = self.state.asks_from(&self.view, self.view_number, first)?;
         let list = self.state.hand_out(self.view_number);
         self.stopped = false;
         Ok(Out { asks, list })
@@ -101,11 +115,16 @@ impl Manager {
     /// leaves exactly where no query is open then. After want of memory the manager is stopped.
     pub fn reply(&mut self, r: Reply) -> Result<Out, NoMemory>
         requires { FitsManager self.old r }
-        ensures state { OnOk result (self.new ≡ record self.old { state = without_list (with_reply (keyed self.old.view) (row_columns self.old.view) self.old.state r.update r.origin r.partials) }) }
-        ensures asks { IfOk result (λ out. out.asks.items ≡ all_sent_by self.old.number (asks_after (keyed self.old.view) self.old.state.queries r.update r.origin r.partials)) }
-        ensures list { IfOk result (λ out. out.list ≡ list_by self.old.number (with_reply (keyed self.old.view) (row_columns self.old.view) self.old.state r.update r.origin r.partials)) }
-        ensures asked { IfOk result (λ out. AllByRecursion (IsAskOf self.old.view) out.asks.items) }
-        ensures actions { IfOk result (λ out. IfSome out.list (λ l. AreActionsOf self.old.view l.actions)) }
+        ensures state { OnOk result (self.new ≡ record self.old {
+            state = without_list (after_reply self.old r)
+        }) }
+        ensures asks { IfOk result (λ out. out.asks.items ≡ asks_on self.old r) }
+        ensures list { IfOk result (λ out.
+            out.list ≡ list_by self.old.number (after_reply self.old r)) }
+        ensures asked { IfOk result (λ out.
+            AllByRecursion (IsSentAsk self.old.view) out.asks.items) }
+        ensures actions { IfOk result (λ out.
+            IfSome out.list (λ l. AreActionsOf self.old.view l.actions)) }
         ensures went_on { OnOk result (self.old.stopped ≡ false) }
         ensures stopped { OnErr result (self.new.stopped ≡ true) }
         ensures number { self.new.number ≡ self.old.number }
@@ -115,7 +134,7 @@ impl Manager {
             return Err(NoMemory);
         }
         self.stopped = true;
-        let asks = self.state.reply(self.alloc, &self.view, r)?;
+        let asks = self.state.take_reply(&self.view, r)?;
         let list = self.state.hand_out(self.view_number);
         self.stopped = false;
         Ok(Out { asks, list })

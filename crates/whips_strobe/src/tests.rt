@@ -3,7 +3,8 @@ ghost use Rattle.std.specs.Prelude.{◌≡◌, [], ◌∷◌, length, IfOk, OnOk
 ghost use Rattle.whips_model.specs.declared.Kind.TheVariants.{Number};
 ghost use Rattle.whips_rel.specs.declared.update.Update.TheVariants.{Insert};
 ghost use Rattle.whips_view.specs.ViewDefs.{keyed};
-ghost use Rattle.whips_managers.specs.Messages.{widths_of, HaveWidths};
+ghost use Rattle.whips_view.specs.Widths.{widths_of};
+ghost use Rattle.whips_managers.specs.Messages.{HaveWidths};
 
 use crate::{Manager, Out};
 use std::alloc::Global;

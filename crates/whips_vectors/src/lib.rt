@@ -1,6 +1,6 @@
 //! Worked runs: for each script and list of events what is reported, computed by the checker from
 //! the definitions.
-#![tactic(auto)]
+#![tactic(auto, unfolding(whips_steps::specs::Steps::asked_sources))]
 
 ghost use Rattle.std.specs.Prelude.{◌≡◌, [], ◌∷◌};
 ghost use Rattle.whips_flow.specs.Painted.{closure};

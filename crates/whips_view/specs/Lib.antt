@@ -1,2 +1,3 @@
 pub mod ViewDefs
 pub mod Refusals
+pub mod Widths

@@ -2,7 +2,7 @@
 ghost use Rattle.std.specs.Prelude.{◌≡◌, ◌≢◌, ◌<◌, ◌≤◌, ◌+◌, ◌^◌, ◌++◌, length, map, slice_get, slice_index_or, IfOk, IfErr, OnOk, None, Some};
 ghost use Rattle.std.specs.Option.{unwrap_or};
 ghost use Rattle.whips_model.specs.declared.Kind.TheVariants.{Number};
-ghost use Rattle.whips_choices.specs.Places.{place_of, places_from, joined};
+ghost use Rattle.whips_choices.specs.Places.{place_of, joined, key_places_from};
 ghost use Rattle.whips_view.specs.ViewDefs.{view_of, kind_of, no_columns, row_columns, IsWellFormed, HasBases};
 ghost use Rattle.whips_model.specs.Relation.{value_of};
 ghost use Rattle.whips_view.specs.Refusals.{relation_refusal, refusal_in, refusal_of, limit_refusal, twice_refusal};
@@ -205,7 +205,7 @@ fn add_places(
 ) -> Result<(), NoMemory>
     requires out { length out.now ≤ 16 }
     requires parts { part + length bases.now < 2 ^ 32 }
-    ensures { OnOk result (places.new.items ≡ places.old.items ++ joined (places_from out.now part (map (λ b. b.key) bases.now))) }
+    ensures { OnOk result (places.new.items ≡ places.old.items ++ joined (key_places_from out.now part (map (λ b. b.key) bases.now))) }
 {
     match bases {
         [] => Ok(()),

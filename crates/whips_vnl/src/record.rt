@@ -177,7 +177,8 @@ pub fn changed(rec: Option<Vrec>, change: Change, vn: u64, n: u32) -> Vrec
     ensures steps { result ≡ steps_after n vn change (steps_or_none rec) }
     ensures new { visible n vn result ≡ seen_after change }
     ensures before { visible n (vn - 1) result ≡ visible n (vn - 1) (steps_or_none rec) }
-    ensures earlier { (v : ℕ) → v < vn → visible n v result ≢ seen_past → visible n v result ≡ visible n v (steps_or_none rec) }
+    ensures earlier { (v : ℕ) → v < vn → visible n v result ≢ seen_past
+        → visible n v result ≡ visible n v (steps_or_none rec) }
 {
     Vrec {
         steps: steps_kept(step_made(change, vn), places_of(rec), n),

@@ -2,7 +2,8 @@ use Rattle.std.proofs.Common.{◌≡◌, IfSome, arith, ap, subst, sym, ◌∙�
 use Rattle.whips_view.specs.ViewDefs.{View, keyed, row_columns}
 use Rattle.whips_actions.specs.declared.action.ActionList.{ActionList}
 use Rattle.whips_actions.specs.Lists.{AreActionsOf}
-use Rattle.whips_managers.specs.Messages.{widths_of, HaveWidths}
+use Rattle.whips_view.specs.Widths.{widths_of}
+use Rattle.whips_managers.specs.Messages.{HaveWidths}
 use Rattle.whips_strobe.specs.Strobes.{ManagerData}
 use Rattle.whips_manager_runs.proofs.Told.{have_widths, last_taken}
 use Rattle.whips_manager_runs.proofs.feed.update.Goals as goal

@@ -22,6 +22,6 @@ loop-turn-preserved c =
     let left = left_with c.loop-turn.table c.take_ready.new.table f.0 c.in_ok-set.ensures.table f.1 in
     record {
       table = still_rows c.args.table.now c.loop-turn.table c.take_ready.new.table _ c.loop-turn.invariant.table c.in_ok-set.ensures.table;
-      forming = forming_step (λ w. w.rows.items) (λ w. w.transaction) c.args.turns c.loop-turn.turn c.args.table.now.table.rows rows c.take_ready.new.table.table.rows c.args.lists.now.items c.loop-turn.lists.items c.form.new.lists.items c.args.cut.now.items c.loop-turn.cut.items c.form.new.cut.items
+      forming = forming_step (λ w. w.rows.items) (λ w. w.transaction) c.args.turns c.loop-turn.turn c.args.table.now.table.rows rows c.take_ready.new.table.table.rows c.args.lists.now.items c.loop-turn.lists.items c.form_transaction.new.lists.items c.args.cut.now.items c.loop-turn.cut.items c.form_transaction.new.cut.items
           c.loop-turn.formed.items c.push_back.new.self.items c.in_ok-waiting.waiting f.0 c.in-Some.set.items c.loop-turn-test.true f.1 f.2 left c.in_ok-waiting.ensures.rows c.in_ok-waiting.ensures.lists c.in_ok-waiting.ensures.cut c.in_ok-waiting.ensures.transaction c.in_ok-push_back.ensures.items c.loop-turn.invariant.forming;
     }

@@ -4,7 +4,7 @@ use Rattle.std.proofs.lemmas.List.{take_all}
 use Rattle.whips_row_buf.proofs.Order.{all_pushed}
 use Rattle.whips_model.specs.Relation.{Table, value_of}
 use Rattle.whips_store.specs.Sound.{IsSoundView}
-use Rattle.whips_plain.specs.First.{view_at_first, views_at_first}
+use Rattle.whips_store.specs.First.{view_at_first, views_at_first}
 use Rattle.whips_plain.specs.Plain.{HasFewSlots}
 use Rattle.whips_plain.proofs.Begins.{taken_more, first_at, first_many, setup_fits, first_made, first_slots_few}
 use Rattle.whips_plain.proofs.Numbers.{first_within, made_within}

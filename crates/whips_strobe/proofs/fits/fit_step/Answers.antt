@@ -1,6 +1,6 @@
 use Rattle.std.proofs.Common.{◌≡◌, ◌+◌, true, false, sym, ◌∙◌}
 use Rattle.whips_view.specs.ViewDefs.{keyed}
-use Rattle.whips_managers.specs.Messages.{widths_of}
+use Rattle.whips_view.specs.Widths.{widths_of}
 use Rattle.whips_strobe.proofs.Fitted.{replied_to, replied_from, differ_is, is_differ}
 use Rattle.whips_strobe.proofs.fits.fit_step.Goals as goal
 

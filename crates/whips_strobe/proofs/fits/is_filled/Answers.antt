@@ -1,5 +1,4 @@
-use Rattle.std.proofs.Common.{ap, ◌∙◌}
-use Rattle.std.specs.Prelude.{slice_index}
+use Rattle.std.proofs.Common.{◌∙◌}
 use Rattle.whips_view.specs.ViewDefs.{keyed}
 use Rattle.whips_strobe.proofs.Fitted.{filled_origin, filled_asked}
 use Rattle.whips_strobe.proofs.fits.is_filled.Goals as goal
@@ -9,5 +8,4 @@ returns-then-part-origin c = filled_origin (keyed c.args.view.now) c.args.origin
 
 pub returns-else-part-origin : goal.returns-else-part-origin
 returns-else-part-origin c =
-    let homes = c.homes.ensures ∙ ap (λ z. z.homes) c.parts.ensures.parts in
-    c.is_asked.ensures ∙ filled_asked (keyed c.args.view.now) c.args.origin c.args.step c.args.part c.args.sources.now (slice_index c.homes.result.now c.args.part) c.requires.sources (ap (λ hs. slice_index hs c.args.part) homes) c.if-part-origin.false
+    c.is_asked.ensures ∙ filled_asked (keyed c.args.view.now) c.args.origin c.args.step c.args.part c.sources.result.now c.home.result c.sources.ensures.sources c.home.ensures c.if-part-origin.false

@@ -1,7 +1,7 @@
 use Rattle.std.proofs.Common.{◌≡◌, take}
 use Rattle.whips_steps.specs.Answers.{unstruck}
 use Rattle.whips_view.specs.ViewDefs.{keyed}
-use Rattle.whips_queries.specs.Deletions.{pending_at}
+use Rattle.whips_open_queries.specs.Deletions.{pending_at}
 use Rattle.whips_strobe.proofs.strike.unstruck.Given as goal
 
 abbrev pub invariant-loop-place : goal.invariant-loop-place

@@ -3,7 +3,7 @@ use Rattle.std.specs.Prelude.{map}
 use Rattle.std.proofs.Math.ListN.{set}
 use Rattle.std.proofs.lemmas.List.Edits.{map_over_more}
 use Rattle.whips_flow.specs.Painted.{painted_row}
-use Rattle.whips_paint.specs.Table.{ViewTable, IsInOrder}
+use Rattle.whips_paint.specs.Table.{ViewTable, table_of, IsInOrder}
 use Rattle.whips_paint.proofs.Ready.{whole_slice}
 use Rattle.whips_paint.proofs.Tables.{order_paint, painted_whole}
 use Rattle.whips_paint.proofs.table.Table.paint.Goals as goal
@@ -15,8 +15,8 @@ loop-row-preserved c =
 
 pub invariant_of-self : goal.invariant_of-self
 invariant_of-self c =
-    let was : ViewTable = record { views = c.self.inside.views; table = record { rows = c.self.inside.rows.items; last_announced = c.self.inside.last_announced } } in
-    subst (λ rows. IsInOrder (record { views = c.self.inside.views; table = record { rows = rows; last_announced = c.self.inside.last_announced } }))
+    let was : ViewTable = table_of c.self.inside.views c.self.inside.rows.items c.self.inside.last_announced in
+    subst (λ rows. IsInOrder (table_of c.self.inside.views rows c.self.inside.last_announced))
     (sym (whole_slice _ c.loop-row.row-items _ (c.loop-row.auto.row-items ∙ c.deref_mut-row-items.ensures.len)
     ∙ painted_whole c.args.view c.args.upto c.deref_mut-row-items.result.now c.loop-row.row-items c.loop-row.row-index c.loop-row.invariant c.loop-row-test.false
     ∙ ap (map (painted_row c.args.view c.args.upto)) c.deref_mut-row-items.ensures.value))

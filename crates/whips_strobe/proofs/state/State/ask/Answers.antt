@@ -1,11 +1,10 @@
-use Rattle.std.proofs.Common.{◌-◌, map, ap, ◌∙◌}
+use Rattle.std.proofs.Common.{◌-◌, ap, ◌∙◌}
 use Rattle.std.specs.Prelude.{slice_get, slice_index}
-use Rattle.whips_steps.specs.Steps.{StepData}
 use Rattle.whips_view.specs.ViewDefs.{keyed}
-use Rattle.whips_strobe.proofs.Replies.{ask_is, sources_back}
+use Rattle.whips_strobe.proofs.Replies.{ask_is}
 use Rattle.whips_strobe.proofs.state.State.ask.Goals as goal
 
 pub returns : goal.returns
 returns c =
-    let source = c.source_of.ensures ∙ ap (λ l. slice_index (map (λ (s : StepData). s.source) l) (c.step-step.result - 1)) (c.deref.ensures.value ∙ c.in_ok-steps.ensures) ∙ ap (λ l. slice_index l (c.step-step.result - 1)) (sources_back (keyed c.args.view.now) c.origin-origin.result) in
+    let source = c.source_of.ensures ∙ ap (λ l. slice_index l (c.step-step.result - 1)) c.sources.ensures.sources in
     rw (← c.self.view_is) (ask_is c.args.number (keyed c.args.view.now) (slice_get c.self.inside.queries c.args.i) c.transaction.result c.origin-origin.result c.step-step.result c.in_ok-copied.field-0 c.source_of.result c.transaction.ensures c.origin-origin.ensures c.step-step.ensures (rw c.in_ok-copied.ensures c.partials.ensures) source)

@@ -1,6 +1,0 @@
-use Rattle.std.proofs.Common.{◌≡◌, take}
-use Rattle.whips_model.specs.Tuples.{at_columns}
-use Rattle.whips_strobe.proofs.strike.codes_in.Given as goal
-
-abbrev pub invariant-loop-column : goal.invariant-loop-column
-invariant-loop-column l = l.codes.items ≡ at_columns (take l.column-index l.columns) l.tuple
