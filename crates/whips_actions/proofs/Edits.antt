@@ -4,10 +4,10 @@ use Rattle.std.specs.Prelude.{slice_get}
 use Rattle.std.specs.List.{filter, AllByRecursion}
 use Rattle.whips_model.specs.declared.ColRef.{ColRef}
 use Rattle.whips_model.specs.Tuples.{Codes, Columns, at_columns, has_key, without_key, IsKeyed}
-use Rattle.whips_model.specs.Relation.{IsTable}
+use Rattle.whips_model.specs.Relation.{Table, IsTable}
 use Rattle.whips_net.specs.Drafts.{DraftData, put_new}
 use Rattle.whips_lists.specs.Members.{Has}
-use Rattle.whips_model.proofs.Keyed.{keyed_filter, widths_filter}
+use Rattle.whips_model.proofs.Keyed.{all_at, keyed_filter, widths_filter}
 use Rattle.whips_lists.proofs.Members.{has_first, has_later, has_mapped, has_before, has_passing, has_passed}
 use Rattle.whips_choices.specs.Edits.{put_missing}
 use Rattle.whips_choices.specs.Places.{place_of, key_places_from}
@@ -86,6 +86,14 @@ key_gone before now after places k keys same keyed are last =
     last ∙ ap (λ (r : DraftData). record r { after = without_keys r.columns.key keys r.after }) same ∙ ap (λ (l : List Codes). record before { after = without_keys before.columns.key l before.after }) are
     ∙ ap (λ (l : List Codes). record before { after = l }) (others_left before.columns.key (has_key places k) before.after keyed)
 
--- all rows that are found have the width
-pub found_wide : (c : Columns) (rows : List Codes) (p : Codes → Bool) → IsTable c rows → AllByRecursion (λ t. length t ≡ length c.kinds) (filter p rows)
-found_wide c rows p h = widths_filter (λ t. length t ≡ length c.kinds) p rows h.widths
+-- a row that is found has the width
+pub row_wide : (c own : Columns) (rows found items : List Codes) (p : Codes → Bool) (i : ℕ) (t : Codes) → IsTable c rows → own ≡ c → found ≡ filter p rows → items ≡ found → i < length items → t ≡ get_or items i t → length t ≡ length own.kinds
+row_wide c own rows found items p i t h same is are lt at =
+    let wide : AllByRecursion (λ u. length u ≡ length c.kinds) items = subst (AllByRecursion (λ u. length u ≡ length c.kinds)) (sym (are ∙ is)) (widths_filter (λ u. length u ≡ length c.kinds) p rows h.widths) in
+    ap length at ∙ all_at (λ u. length u ≡ length c.kinds) items i t wide lt ∙ ap (λ (z : Columns). length z.kinds) (sym same)
+
+-- the keys that were found are those of the rows with the key
+pub keys_found : (d : DraftData) (rows : Table) (places asked : List ℕ) (k : Codes) (keys : List Codes) → rows ≡ record { columns = d.columns; rows = d.after } → asked ≡ places
+    → keys ≡ map (at_columns rows.columns.key) (filter (has_key asked k) rows.rows) → keys ≡ map (at_columns d.columns.key) (filter (has_key places k) d.after)
+keys_found d rows places asked k keys is same found =
+    found ∙ ap (λ (t : Table). map (at_columns t.columns.key) (filter (has_key asked k) t.rows)) is ∙ ap (λ ps. map (at_columns d.columns.key) (filter (has_key ps k) d.after)) same

@@ -24,8 +24,10 @@ fn initial_relations(alloc: Global, setup: &Setup) -> Result<Db, NoMemory>
 
 /// The views with their values on the initial relations and the setup's slots. They are sound.
 pub(crate) fn first_views(alloc: Global, setup: &Setup) -> Result<Vec<PlainView>, NoMemory>
-    ensures made { IfOk result (λ views. views.items ≡ views_at_first setup.now.initial setup.now.views setup.now.slots) }
-    ensures sound { IfOk result (λ views. (n : ℕ) → 2 ≤ n → AllByRecursion (IsSoundView n 0) views.items) }
+    ensures made { IfOk result (λ views. views.items
+        ≡ views_at_first setup.now.initial setup.now.views setup.now.slots) }
+    ensures sound { IfOk result (λ views. (n : ℕ) → 2 ≤ n
+        → AllByRecursion (IsSoundView n 0) views.items) }
     ensures slots { IfOk result (λ views. AllByRecursion HasFewSlots views.items) }
 {
     let db = initial_relations(alloc, setup)?;
