@@ -91,7 +91,7 @@ module _ (db : List Table) (within : AreTablesWithin db) where
     value_within = all_from_has (λ t. has_numbers_within (row_columns view).kinds t ≡ true) (value_of view.parts db) (λ t h.
         let from = value_choice view.parts (map (table_rows db) view.parts.relations) t h in
         subst (λ z. has_numbers_within (row_columns view).kinds z ≡ true) (sym from.1.row)
-          (out_within (λ at. unwrap_or (kind_of view.bases at) Number) (code_at from.0) view.parts.out (each_within from.0 from.1.choice_of)))
+        (out_within (λ at. unwrap_or (kind_of view.bases at) Number) (code_at from.0) view.parts.out (each_within from.0 from.1.choice_of)))
 
 -- ---- a setup
 

@@ -31,9 +31,20 @@ impl Model for Plain {
 
     ghost Value = { StoreState };
 
-    ghost view = { λ p. record { versions = p.versions; phase = p.phase; views = p.views.items; past = None } };
+    ghost view = { λ p. record {
+      versions = p.versions;
+      phase = p.phase;
+      views = p.views.items;
+      past = None;
+    } };
 
-    ghost invariant = { λ p. IsPlain p.left (record { versions = p.versions; phase = p.phase; views = p.views.items; past = None }) };
+    ghost invariant = { λ p. IsPlain p.left (record {
+      versions = p.versions;
+      phase = p.phase;
+      views
+          = p.views.items;
+      past = None;
+    }) };
 }
 
 impl Plain {

@@ -42,9 +42,17 @@ impl Model for PlainView {
 
     ghost Value = { ViewState };
 
-    ghost view = { λ f. record { columns = f.current.columns; records = all_steps f.records.items; current = f.current.rows; next = (unwrap_or f.next f.current).rows; left = reverse f.left.items } };
+    ghost view = { λ f. record {
+      columns = f.current.columns;
+      records = all_steps f.records.items;
+      current = f.current.rows;
+      next = (unwrap_or f.next f.current).rows;
+      left = reverse
+          f.left.items;
+    } };
 
-    ghost invariant = { λ f. ((unwrap_or f.next f.current).columns ≡ f.current.columns) × ForSome f.index (IsIndex f.current.columns.key (all_steps f.records.items)) };
+    ghost invariant = { λ f. ((unwrap_or f.next f.current).columns ≡ f.current.columns)
+        × ForSome f.index (IsIndex f.current.columns.key (all_steps f.records.items)) };
 }
 
 /// Makes the change in the slot.

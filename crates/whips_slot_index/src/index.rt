@@ -38,7 +38,14 @@ impl Model for SlotIndex {
 
     ghost Value = { IndexData };
 
-    ghost view = { λ f. record { versions = f.versions; committed = f.committed; slots = f.slots.entries; free = f.free.keys; revisit = f.revisit.items } };
+    ghost view = { λ f. record {
+      versions = f.versions;
+      committed = f.committed;
+      slots =
+          f.slots.entries;
+      free = f.free.keys;
+      revisit = f.revisit.items;
+    } };
 }
 
 /// The places below `count`, in order.
