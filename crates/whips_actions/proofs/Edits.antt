@@ -1,42 +1,28 @@
 -- Turns of the loops that edit rows.
-use Rattle.std.proofs.Common.{◌≡◌, ◌≢◌, inl, inr, ℕ, zero, suc, ◌+◌, Bool, true, false, cond, not, Some, List, [], ◌∷◌, ◌++◌, map, get_or, take, refl, sym, ap, subst, ◌∙◌, arith, append-nil, add-one}
+use Rattle.std.proofs.Common.{◌≡◌, ◌≢◌, inl, inr, ℕ, zero, suc, ◌+◌, ◌<◌, length, Bool, true, false, cond, not, Some, List, [], ◌∷◌, ◌++◌, map, get_or, take, refl, sym, ap, subst, ◌∙◌, arith, append-nil, add-one}
 use Rattle.std.specs.Prelude.{slice_get}
-use Rattle.std.specs.List.{filter}
+use Rattle.std.specs.List.{filter, AllByRecursion}
 use Rattle.whips_model.specs.declared.ColRef.{ColRef}
 use Rattle.whips_model.specs.Tuples.{Codes, Columns, at_columns, has_key, without_key, IsKeyed}
-use Rattle.whips_model.specs.Relation.{Table}
-use Rattle.whips_model.specs.Members.{Has}
-use Rattle.whips_model.proofs.Keyed.{keyed_filter}
-use Rattle.whips_model.proofs.Members.{has_first, has_later, has_mapped, has_before, has_passing, has_passed}
+use Rattle.whips_model.specs.Relation.{Table, IsTable}
+use Rattle.whips_net.specs.Drafts.{DraftData, put_new}
+use Rattle.whips_lists.specs.Members.{Has}
+use Rattle.whips_model.proofs.Keyed.{all_at, keyed_filter, widths_filter}
+use Rattle.whips_lists.proofs.Members.{has_first, has_later, has_mapped, has_before, has_passing, has_passed}
 use Rattle.whips_choices.specs.Edits.{put_missing}
-use Rattle.whips_choices.specs.Places.{place_of, places_from}
+use Rattle.whips_choices.specs.Places.{place_of, key_places_from}
 use Rattle.whips_choices.proofs.Rows.{without_only, without_keeps, same_row, same_rows}
 use Rattle.whips_states.specs.Laws.{without_keys}
 use Rattle.whips_trans_laws.proofs.ByKey.{keys_keyed}
 
--- one more element that is picked where it passes
-pub picked_more : {X Y : Type 0} (p : X → Bool) (f : X → Y) (xs : List X) (i : ℕ) (x : X) → slice_get xs i ≡ Some x → map f (filter p (take (suc i) xs)) ≡ map f (filter p (take i xs)) ++ cond (p x) (f x ∷ []) []
-picked_more p f [] i x e = absurd (cc)
-picked_more {X} {Y} p f (y ∷ xs) zero x e = let same : y ≡ x = cc in subst (λ (z : X). map f (cond (p y) (y ∷ []) []) ≡ cond (p z) (f z ∷ []) []) same (one (p y))
-  where
-    one : (b : Bool) → map f (cond b (y ∷ []) []) ≡ cond b (f y ∷ []) []
-    one true = refl
-    one false = refl
-picked_more p f (y ∷ xs) (suc i) x e = go (picked_more p f xs i x e) (p y)
-  where
-    go : map f (filter p (take (suc i) xs)) ≡ map f (filter p (take i xs)) ++ cond (p x) (f x ∷ []) [] → (b : Bool)
-        → map f (cond b (y ∷ filter p (take (suc i) xs)) (filter p (take (suc i) xs))) ≡ map f (cond b (y ∷ filter p (take i xs)) (filter p (take i xs))) ++ cond (p x) (f x ∷ []) []
-    go ih true = ap (λ l. f y ∷ l) ih
-    go ih false = ih
-
 -- one more row that comes where its key isn't there
-pub missing_more : (cols : List ℕ) (new rows : List Codes) (i : ℕ) (x : Codes) → slice_get new i ≡ Some x → put_missing cols (take (suc i) new) rows ≡ put_missing cols (x ∷ []) (put_missing cols (take i new) rows)
-missing_more cols [] rows i x e = absurd (cc)
-missing_more cols (y ∷ new) rows zero x e = let same : y ≡ x = cc in ap (λ z. put_missing cols (z ∷ []) rows) same
-missing_more cols (y ∷ new) rows (suc i) x e = missing_more cols new _ i x e
+pub missing_more : (cols : List ℕ) (new rows : List Codes) (i : ℕ) (x : Codes) → i < length new → x ≡ get_or new i x → put_missing cols (take (suc i) new) rows ≡ put_new cols x (put_missing cols (take i new) rows)
+missing_more cols [] rows i x lt e = absurd (omega arith)
+missing_more cols (y ∷ new) rows zero x lt e = ap (λ z. put_missing cols (z ∷ []) rows) (sym e)
+missing_more cols (y ∷ new) rows (suc i) x lt e = missing_more cols new _ i x (omega arith) e
 
 -- the places of a part's key columns
-pub places_is : (out : List ColRef) (bases : List Columns) (p i : ℕ) (b : Columns) → slice_get bases i ≡ Some b → get_or (places_from out p (map (λ b. b.key) bases)) i [] ≡ map (place_of out (p + i)) b.key
+pub places_is : (out : List ColRef) (bases : List Columns) (p i : ℕ) (b : Columns) → slice_get bases i ≡ Some b → get_or (key_places_from out p (map (λ b. b.key) bases)) i [] ≡ map (place_of out (p + i)) b.key
 places_is out [] p i b e = absurd (cc)
 places_is out (c ∷ bases) p zero b e = let same : c ≡ b = cc in let plain : p ≡ p + 0 = omega arith in ap (λ z. map (place_of out p) z.key) same ∙ ap (λ n. map (place_of out n) b.key) plain
 places_is out (c ∷ bases) p (suc i) b e = let more : suc p + i ≡ p + suc i = omega arith in places_is out bases (suc p) i b e ∙ ap (λ n. map (place_of out n) b.key) more
@@ -85,28 +71,29 @@ module _ (cols : List ℕ) where
               let e : p t ≡ true = ap p one ∙ w.1 in
               absurd (cc (e, passed.1))
 
-module _ {X Y : Type 0} (p : X → Bool) (f : X → Y) (xs : List X) (i : ℕ) (x : X) (now new : List Y) where
-  pub picked : slice_get xs i ≡ Some x → now ≡ map f (filter p (take i xs)) → p x ≡ true → (y : Y) → y ≡ f x → new ≡ now ++ y ∷ [] → new ≡ map f (filter p (take (i + 1) xs))
-  picked at so_far passes y is more = rw add-one (more ∙ ap (λ z. now ++ z ∷ []) is ∙ ap (λ l. l ++ f x ∷ []) so_far ∙ sym (picked_more p f xs i x at ∙ ap (λ b. map f (filter p (take i xs)) ++ cond b (f x ∷ []) []) passes))
-
-  pub not_picked : slice_get xs i ≡ Some x → now ≡ map f (filter p (take i xs)) → p x ≡ false → new ≡ now → new ≡ map f (filter p (take (i + 1) xs))
-  not_picked at so_far fails same = rw add-one (same ∙ so_far ∙ sym (picked_more p f xs i x at ∙ ap (λ b. map f (filter p (take i xs)) ++ cond b (f x ∷ []) []) fails ∙ append-nil (map f (filter p (take i xs)))))
-
-module _ (before now after : Table) where
-  abbrev columns : List ℕ
-  columns = before.columns.key
-
-  -- a turn of the loop that puts rows
-  pub missing_turn : (new : List Codes) (i : ℕ) (x t : Codes) → slice_get new i ≡ Some x → t ≡ x → now ≡ record before { rows = put_missing before.columns.key (take i new) before.rows }
-      → after ≡ record now { rows = put_missing now.columns.key (t ∷ []) now.rows } → after ≡ record before { rows = put_missing before.columns.key (take (i + 1) new) before.rows }
-  missing_turn new i x t at is so_far last =
-      rw add-one (last ∙ ap (λ (r : Table). record r { rows = put_missing r.columns.key (t ∷ []) r.rows }) so_far
-      ∙ ap (λ (z : Codes). record before { rows = put_missing columns (z ∷ []) (put_missing columns (take i new) before.rows) }) is
-      ∙ ap (λ (l : List Codes). record before { rows = l }) (sym (missing_more columns new before.rows i x at)))
+-- a turn of the loop that puts rows
+pub missing_turn : (before now after : DraftData) (new : List Codes) (i : ℕ) (x t : Codes) → i < length new → x ≡ get_or new i x → t ≡ x → now ≡ record before { after = put_missing before.columns.key (take i new) before.after }
+    → after ≡ record now { after = put_new now.columns.key t now.after } → after ≡ record before { after = put_missing before.columns.key (take (i + 1) new) before.after }
+missing_turn before now after new i x t lt at is so_far last =
+    rw add-one (last ∙ ap (λ (r : DraftData). record r { after = put_new r.columns.key t r.after }) so_far
+    ∙ ap (λ (z : Codes). record before { after = put_new before.columns.key z (put_missing before.columns.key (take i new) before.after) }) is
+    ∙ ap (λ (l : List Codes). record before { after = l }) (sym (missing_more before.columns.key new before.after i x lt at)))
 
 -- the rows that have a key go
-pub key_gone : (before after : Table) (places : List ℕ) (k : Codes) (keys : List Codes) → IsKeyed before.columns.key before.rows → keys ≡ map (at_columns before.columns.key) (filter (has_key places k) before.rows)
-    → after ≡ record before { rows = without_keys before.columns.key keys before.rows } → after ≡ record before { rows = without_key places k before.rows }
-key_gone before after places k keys keyed are last =
-    last ∙ ap (λ (l : List Codes). record before { rows = without_keys before.columns.key l before.rows }) are
-    ∙ ap (λ (l : List Codes). record before { rows = l }) (others_left before.columns.key (has_key places k) before.rows keyed)
+pub key_gone : (before now after : DraftData) (places : List ℕ) (k : Codes) (keys : List Codes) → now ≡ before → IsKeyed before.columns.key before.after → keys ≡ map (at_columns before.columns.key) (filter (has_key places k) before.after)
+    → after ≡ record now { after = without_keys now.columns.key keys now.after } → after ≡ record before { after = without_key places k before.after }
+key_gone before now after places k keys same keyed are last =
+    last ∙ ap (λ (r : DraftData). record r { after = without_keys r.columns.key keys r.after }) same ∙ ap (λ (l : List Codes). record before { after = without_keys before.columns.key l before.after }) are
+    ∙ ap (λ (l : List Codes). record before { after = l }) (others_left before.columns.key (has_key places k) before.after keyed)
+
+-- a row that is found has the width
+pub row_wide : (c own : Columns) (rows found items : List Codes) (p : Codes → Bool) (i : ℕ) (t : Codes) → IsTable c rows → own ≡ c → found ≡ filter p rows → items ≡ found → i < length items → t ≡ get_or items i t → length t ≡ length own.kinds
+row_wide c own rows found items p i t h same is are lt at =
+    let wide : AllByRecursion (λ u. length u ≡ length c.kinds) items = subst (AllByRecursion (λ u. length u ≡ length c.kinds)) (sym (are ∙ is)) (widths_filter (λ u. length u ≡ length c.kinds) p rows h.widths) in
+    ap length at ∙ all_at (λ u. length u ≡ length c.kinds) items i t wide lt ∙ ap (λ (z : Columns). length z.kinds) (sym same)
+
+-- the keys that were found are those of the rows with the key
+pub keys_found : (d : DraftData) (rows : Table) (places asked : List ℕ) (k : Codes) (keys : List Codes) → rows ≡ record { columns = d.columns; rows = d.after } → asked ≡ places
+    → keys ≡ map (at_columns rows.columns.key) (filter (has_key asked k) rows.rows) → keys ≡ map (at_columns d.columns.key) (filter (has_key places k) d.after)
+keys_found d rows places asked k keys is same found =
+    found ∙ ap (λ (t : Table). map (at_columns t.columns.key) (filter (has_key asked k) t.rows)) is ∙ ap (λ ps. map (at_columns d.columns.key) (filter (has_key ps k) d.after)) same

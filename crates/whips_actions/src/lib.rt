@@ -7,4 +7,4 @@ mod edit;
 mod tests;
 
 pub use action::{Action, ActionList, Actions};
-pub use edit::{apply, apply_to};
+pub use edit::{apply, apply_in, apply_to};

@@ -6,7 +6,8 @@ use Rattle.whips_model.specs.Tuples.{Codes, Columns}
 use Rattle.whips_choices.specs.KeyedViews.{KeyedView}
 use Rattle.whips_states.specs.States.{Updates}
 use Rattle.whips_states.specs.Net.{given_at, taken}
-use Rattle.whips_steps.specs.Steps.{numbers_below, asked_sources}
+use Rattle.whips_steps.specs.Steps.{asked_sources}
+use Rattle.whips_lists.specs.Lists.{places_from}
 use Rattle.whips_actions.specs.declared.action.Action.{Action}
 use Rattle.whips_actions.specs.declared.action.Action.TheVariants.{KeyDelete}
 use Rattle.whips_managers.specs.Managers.{Query, ManagerState, with_pending, with_deletion, with_deletions, with_query, with_put, put_or_asked, with_given, with_all_given, with_transaction}
@@ -89,7 +90,7 @@ after_transaction v columns m number t = record {
 }
   where
     parts : List ℕ
-    parts = numbers_below (length v.keys)
+    parts = places_from 0 (length v.keys)
 
     start : ManagerState
     start = with_deletions (record m { last = number }) (taken v t)

@@ -6,14 +6,14 @@ use Rattle.std.proofs.lemmas.Bool.{cases_eq, and_from}
 use Rattle.std.proofs.lemmas.List.{length-replicate}
 use Rattle.std.proofs.lemmas.Option.{slice_get-map}
 use Rattle.whips_model.specs.Tuples.{Codes, IsKeyed}
-use Rattle.whips_model.proofs.Members.{has_before, has_passed, all_has, all_from_has}
+use Rattle.whips_lists.proofs.Members.{has_before, has_passed, all_has, all_from_has, any_from_has}
 use Rattle.whips_choices.specs.KeyedViews.{KeyedView, part_key}
 use Rattle.whips_choices.specs.Partials.{Partial, slot, seed, extended}
 use Rattle.whips_choices.proofs.Parts.{seed_width, seed_at, seed_other}
 use Rattle.whips_steps.specs.Steps.{asked_sources, step_parts, is_filled}
 use Rattle.whips_steps.specs.Answers.{AllDifferInKey, IsWhole, tables_of, has_key_at}
 use Rattle.whips_steps.proofs.Fills.{with_all, differ_filter, differ_rows}
-use Rattle.whips_steps.proofs.Stepping.{any_from_has, parts_distinct, parts_free, filled_next, filled_first, all_filled}
+use Rattle.whips_steps.proofs.Stepping.{parts_distinct, parts_free, filled_next, filled_first, all_filled}
 use Rattle.whips_managers.specs.Managers.{is_named}
 use Rattle.whips_steps.specs.Filled.{IsFilledBefore}
 use Rattle.whips_ask_laws.specs.Laws.{AskNamesStep, AskIsFree, AnswerFits, LastIsWhole, SeedsAreWhole}

@@ -3,7 +3,7 @@ use Rattle.std.proofs.Common.{◌≡◌, ℕ, zero, suc, ◌<◌, Option, Some, 
 use Rattle.std.proofs.lemmas.List.{get_or-map}
 use Rattle.whips_model.specs.Tuples.{Columns, IsKeyed}
 use Rattle.whips_model.specs.Relation.{Table, IsTable, rows_in, table_rows}
-use Rattle.whips_model.proofs.Members.{all_has}
+use Rattle.whips_lists.proofs.Members.{all_has}
 use Rattle.whips_states.specs.States.{AreSoundTables}
 use Rattle.whips_states.proofs.Changed.{sound_at}
 use Rattle.whips_view.specs.ViewDefs.{columns_in, no_columns}

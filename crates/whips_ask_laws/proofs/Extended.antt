@@ -4,12 +4,12 @@ use Rattle.std.specs.List.{filter}
 use Rattle.std.proofs.lemmas.Bool.{cases_eq}
 use Rattle.std.proofs.lemmas.List.{length-set}
 use Rattle.whips_model.specs.Tuples.{Codes, IsKeyed}
-use Rattle.whips_model.specs.Members.{Has}
+use Rattle.whips_lists.specs.Members.{Has, AreDistinct}
 use Rattle.whips_model.specs.Views.{ViewData}
-use Rattle.whips_model.proofs.Members.{has_first, has_later, has_either, has_passed, has_before}
+use Rattle.whips_lists.proofs.Members.{has_first, has_later, has_either, has_passed, has_before}
 use Rattle.whips_choices.specs.Partials.{Partial, slot, meets_on, with_tuple, extended_at, extended}
 use Rattle.whips_choices.proofs.Parts.{slot_set_same, slot_set_other, extended_from, ComesFrom}
-use Rattle.whips_steps.specs.Answers.{DifferInKey, AllDifferInKey, AreDistinct}
+use Rattle.whips_steps.specs.Answers.{DifferInKey, AllDifferInKey}
 use Rattle.whips_steps.proofs.Fills.{with_filled, with_all, kept, differ_filter, differ_rows}
 
 -- ---- any two differ in a key

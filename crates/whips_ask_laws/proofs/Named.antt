@@ -4,9 +4,9 @@ use Rattle.std.specs.List.{AllByRecursion}
 use Rattle.std.proofs.lemmas.Bool.{and_parts, ltb-true}
 use Rattle.std.proofs.lemmas.List.{append_assoc}
 use Rattle.whips_model.specs.Tuples.{Codes, Columns, at_columns, IsKeyed}
-use Rattle.whips_model.specs.Members.{Has}
+use Rattle.whips_lists.specs.Members.{Has, AreDistinct}
 use Rattle.whips_model.proofs.Keyed.{keyed_filter}
-use Rattle.whips_model.proofs.Members.{has_first, has_later, has_passed, has_before, all_has, all_from_has}
+use Rattle.whips_lists.proofs.Members.{has_first, has_later, has_passed, has_before, all_has, all_from_has, has_from_any}
 use Rattle.whips_choices.specs.KeyedViews.{KeyedView, part_key}
 use Rattle.whips_choices.specs.Partials.{Partial, seed}
 use Rattle.whips_choices.proofs.Parts.{seed_width}
@@ -15,9 +15,9 @@ use Rattle.whips_states.specs.States.{Updates}
 use Rattle.whips_states.specs.Concerns.{meets_part}
 use Rattle.whips_states.specs.Net.{inserted, relation_at, given_at, taken}
 use Rattle.whips_trans_laws.proofs.Nets.{inserted_last}
-use Rattle.whips_steps.specs.Steps.{numbers_below, asked_sources}
-use Rattle.whips_steps.specs.Answers.{AreDistinct}
-use Rattle.whips_steps.proofs.Stepping.{below_is, has_from_any}
+use Rattle.whips_steps.specs.Steps.{asked_sources}
+use Rattle.whips_lists.specs.Lists.{places_from}
+use Rattle.whips_lists.proofs.Places.{below_is}
 use Rattle.whips_managers.specs.Managers.{Query, ManagerState, name_of, with_pending, with_deletion, with_deletions, new_query, with_query, with_put, put_or_asked, with_given, with_all_given, moved_on, has_next, with_step, with_answer, with_reply_to, is_named, with_reply_behind}
 use Rattle.whips_steps.specs.Filled.{IsFilledBefore}
 use Rattle.whips_managers.specs.Messages.{CanAsk, HasWidth, HaveWidths, Fits}
@@ -132,7 +132,7 @@ module _ (v : KeyedView) (columns : Columns) (widths : List ℕ) where
 
 pub transaction_asks : TransactionAsks
 transaction_asks v columns widths m number t wide h =
-    all_from_has (CanAsk v widths) _ (all_given_each v columns widths number (given_at v t) (numbers_below (length v.keys)) (with_deletions (record m { last = number }) (taken v t)) (below_is (length v.keys))
+    all_from_has (CanAsk v widths) _ (all_given_each v columns widths number (given_at v t) (places_from 0 (length v.keys)) (with_deletions (record m { last = number }) (taken v t)) (below_is (length v.keys))
     (λ i lt. keyed_filter (part_key v i) (meets_part v.base i) (inserted (relation_at v i) (part_key v i) t) (inserted_last (relation_at v i) (part_key v i) t).0)
     (given_wide v columns widths t wide)
     (deleted_each v columns widths (taken v t) (record m { last = number }) (all_has (CanAsk v widths) m.queries h)))

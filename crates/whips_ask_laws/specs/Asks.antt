@@ -2,7 +2,7 @@
 use Rattle.std.specs.Prelude.{◌≡◌, ℕ, List, length, slice_index}
 use Rattle.whips_model.specs.Tuples.{Codes, IsKeyed}
 use Rattle.whips_model.specs.Relation.{Table}
-use Rattle.whips_model.specs.Members.{Has}
+use Rattle.whips_lists.specs.Members.{Has}
 use Rattle.whips_choices.specs.KeyedViews.{KeyedView, part_key, rows_at}
 use Rattle.whips_steps.specs.Answers.{tables_of}
 

@@ -6,7 +6,8 @@ use Rattle.whips_choices.specs.KeyedViews.{KeyedView}
 use Rattle.whips_choices.specs.Partials.{seed}
 use Rattle.whips_states.specs.States.{Updates}
 use Rattle.whips_states.specs.Net.{given_at, taken}
-use Rattle.whips_steps.specs.Steps.{numbers_below, asked_sources}
+use Rattle.whips_steps.specs.Steps.{asked_sources}
+use Rattle.whips_lists.specs.Lists.{places_from}
 use Rattle.whips_actions.specs.declared.action.Action.{Action}
 use Rattle.whips_actions.specs.declared.action.Action.TheVariants.{KeyDelete}
 use Rattle.whips_managers.specs.Managers.{Query, ManagerState, new_query, put_of, with_transaction}
@@ -39,9 +40,9 @@ with_all_pending keys q = record q { pending = q.pending ++ keys }
 -- After a transaction the last number is its own; the action list has a key delete for each key that the transaction takes, and then what is put at once; each earlier query has these keys among its pending deletions; behind them stand the queries that begin; and each of these is asked at its first step.
 pub record IsAfter (v : KeyedView) (columns : Columns) (m : ManagerState) (number : ℕ) (t : Updates) (after : ManagerState) : Type 0 where
   pub last : after.last ≡ number
-  pub actions : after.actions ≡ m.actions ++ map (λ e. KeyDelete e.0 e.1) (taken v t) ++ puts_of v columns t (numbers_below (length v.keys))
-  pub queries : after.queries ≡ map (with_all_pending (taken v t)) m.queries ++ begun v number t (numbers_below (length v.keys))
-  pub asks : new_asks v m after ≡ map (ask_of v) (begun v number t (numbers_below (length v.keys)))
+  pub actions : after.actions ≡ m.actions ++ map (λ e. KeyDelete e.0 e.1) (taken v t) ++ puts_of v columns t (places_from 0 (length v.keys))
+  pub queries : after.queries ≡ map (with_all_pending (taken v t)) m.queries ++ begun v number t (places_from 0 (length v.keys))
+  pub asks : new_asks v m after ≡ map (ask_of v) (begun v number t (places_from 0 (length v.keys)))
 
 abbrev pub AfterTransaction : Type 0
 AfterTransaction = (v : KeyedView) (columns : Columns) (m : ManagerState) (number : ℕ) (t : Updates) → IsAfter v columns m number t (with_transaction v columns m number t)

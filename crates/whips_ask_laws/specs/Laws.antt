@@ -3,12 +3,12 @@ use Rattle.std.specs.Prelude.{◌≡◌, ℕ, ◌-◌, ◌<◌, true, false, Lis
 use Rattle.std.specs.List.{AllByRecursion}
 use Rattle.whips_model.specs.Tuples.{Codes, Columns, IsKeyed}
 use Rattle.whips_model.specs.Relation.{Table}
-use Rattle.whips_model.specs.Members.{Has}
+use Rattle.whips_lists.specs.Members.{Has, AreDistinct}
 use Rattle.whips_choices.specs.KeyedViews.{KeyedView, part_key}
 use Rattle.whips_choices.specs.Partials.{Partial, slot, seed}
 use Rattle.whips_states.specs.States.{Updates, AreSoundTables}
 use Rattle.whips_steps.specs.Steps.{asked_sources, steps, step_parts}
-use Rattle.whips_steps.specs.Answers.{AllDifferInKey, AreDistinct, IsWhole, step_answer, unstruck}
+use Rattle.whips_steps.specs.Answers.{AllDifferInKey, IsWhole, step_answer, unstruck}
 use Rattle.whips_view.specs.ViewDefs.{View, keyed, HasBases}
 use Rattle.whips_managers.specs.Managers.{Query, ManagerState, name_of, is_named, with_transaction, with_reply_to, with_reply}
 use Rattle.whips_view.specs.Widths.{widths_of}

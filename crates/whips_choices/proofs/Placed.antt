@@ -6,9 +6,9 @@ use Rattle.whips_model.specs.declared.ColRef.{ColRef}
 use Rattle.whips_model.specs.Tuples.{at_columns}
 use Rattle.whips_model.specs.Views.{Choice, code_at, out_row}
 use Rattle.whips_model.specs.Keys.{joined_key}
-use Rattle.whips_model.specs.Members.{Has}
-use Rattle.whips_model.proofs.Members.{has_first, has_later, has_none, has_cases}
-use Rattle.whips_choices.specs.Places.{column, place_of, places_from, joined, KeyColumns}
+use Rattle.whips_lists.specs.Members.{Has}
+use Rattle.whips_lists.proofs.Members.{has_first, has_later, has_none, has_cases}
+use Rattle.whips_choices.specs.Places.{column, place_of, joined, KeyColumns, key_places_from}
 
 module _ (choice : Choice) where
   place_right : (out : List ColRef) (p c : ℕ) → Has (column p c) out → get_or (map (code_at choice) out) (place_of out p c) 0 ≡ code_at choice (column p c)
@@ -30,20 +30,20 @@ module _ (choice : Choice) where
   part_right out p [] h = refl
   part_right out p (c ∷ cols) h = ap₂ (λ x l. x ∷ l) (place_right out p c (h c (has_first c cols))) (part_right out p cols (λ d k. h d (has_later d c cols k)))
 
-  place_at : (out : List ColRef) (p i : ℕ) (keys : List (List ℕ)) → i < length keys → get_or (places_from out p keys) i [] ≡ map (place_of out (p + i)) (get_or keys i [])
+  place_at : (out : List ColRef) (p i : ℕ) (keys : List (List ℕ)) → i < length keys → get_or (key_places_from out p keys) i [] ≡ map (place_of out (p + i)) (get_or keys i [])
   place_at out p i [] lt = absurd (omega arith)
   place_at out p zero (cols ∷ keys) lt = let e : p ≡ p + 0 = omega arith in ap (λ z. map (place_of out z) cols) e
   place_at out p (suc i) (cols ∷ keys) lt = let e : suc p + i ≡ p + suc i = omega arith in place_at out (suc p) i keys (omega arith) ∙ ap (λ z. map (place_of out z) (get_or keys i [])) e
 
   -- the keys of the parts from p on, one after another
   keys_right : (out : List ColRef) (p : ℕ) (keys : List (List ℕ)) (rest : Choice) → length rest ≡ length keys → ((i : ℕ) → i < length keys → get_or rest i [] ≡ get_or choice (p + i) [])
-      → ((i c : ℕ) → i < length keys → Has c (get_or keys i []) → Has (column (p + i) c) out) → at_columns (joined (places_from out p keys)) (map (code_at choice) out) ≡ joined_key keys rest
+      → ((i c : ℕ) → i < length keys → Has c (get_or keys i []) → Has (column (p + i) c) out) → at_columns (joined (key_places_from out p keys)) (map (code_at choice) out) ≡ joined_key keys rest
   keys_right out p [] rest e same h = refl
   keys_right out p (cols ∷ keys) [] e same h = absurd (omega arith)
   keys_right out p (cols ∷ keys) (t ∷ rest) e same h =
       let zero_more : p + 0 ≡ p = omega arith in
       let one_less : (i : ℕ) → p + suc i ≡ suc p + i = λ i. omega arith in
-      map-append _ (map (place_of out p) cols) (joined (places_from out (suc p) keys))
+      map-append _ (map (place_of out p) cols) (joined (key_places_from out (suc p) keys))
       ∙ ap₂ (λ a b. a ++ b)
       (part_right out p cols (λ c k. subst (λ z. Has (column z c) out) zero_more (h 0 c (omega arith) k)) ∙ ap (at_columns cols) (sym (same 0 (omega arith) ∙ ap (λ z. get_or choice z []) zero_more)))
       (keys_right out (suc p) keys rest (omega arith) (λ i lt. same (suc i) (omega arith) ∙ ap (λ z. get_or choice z []) (one_less i)) (λ i c lt k. subst (λ z. Has (column z c) out) (one_less i) (h (suc i) c (omega arith) k)))

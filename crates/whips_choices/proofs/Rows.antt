@@ -6,9 +6,9 @@ use Rattle.std.specs.declared.cmp.Ordering.{Ordering}
 use Rattle.std.specs.declared.cmp.Ordering.TheVariants.{Less, Equal, Greater}
 use Rattle.std.proofs.lemmas.Cmp.{nat_list_cmp_total, ranked, tied_itself}
 use Rattle.whips_model.specs.Tuples.{Codes, codes_cmp, at_columns, has_key, row_at, put_row, without_key, IsBefore, IsKeyed}
-use Rattle.whips_model.specs.Members.{Has}
+use Rattle.whips_lists.specs.Members.{Has}
 use Rattle.whips_choices.specs.Edits.{put_missing, put_rows}
-use Rattle.whips_model.proofs.Members.{has_same, has_passing, has_passed, all_has, has_first, has_later}
+use Rattle.whips_lists.proofs.Members.{has_same, has_passing, has_passed, all_has, has_first, has_later}
 
 -- ---- keys are equal as their order says
 

@@ -5,9 +5,9 @@ use Rattle.whips_model.specs.Tuples.{Codes, at_columns, IsKeyed}
 use Rattle.whips_model.specs.Views.{ViewData, Choice, meets, out_row, choices, rows_of}
 use Rattle.whips_model.specs.Keys.{AreKeyed}
 use Rattle.whips_model.proofs.Rising.{value_keyed}
-use Rattle.whips_model.specs.Members.{Has}
+use Rattle.whips_lists.specs.Members.{Has}
 use Rattle.whips_choices.specs.KeyedViews.{KeyedView, IsKeyedView, AreTables, IsChoiceOf, IsRowOf}
-use Rattle.whips_model.proofs.Members.{has_first, has_none, has_cases, has_passing, has_passed, has_joined, has_source, has_mapped, has_before}
+use Rattle.whips_lists.proofs.Members.{has_first, has_none, has_cases, has_passing, has_passed, has_joined, has_source, has_mapped, has_before}
 use Rattle.whips_choices.proofs.Rows.{same_row}
 
 choice_of_more : (rows : List Codes) (tables : List (List Codes)) (t : Codes) (c : Choice) → Has t rows → IsChoiceOf tables c → IsChoiceOf (rows ∷ tables) (t ∷ c)

@@ -2,7 +2,7 @@
 use Rattle.std.specs.Prelude.{◌↔◌, List}
 use Rattle.whips_model.specs.Tuples.{Codes}
 use Rattle.whips_model.specs.Views.{ViewData, Choice, rows_of}
-use Rattle.whips_model.specs.Members.{Has}
+use Rattle.whips_lists.specs.Members.{Has}
 use Rattle.whips_choices.specs.KeyedViews.{IsRowOf}
 
 -- a row is in the value exactly where a choice that meets the view gives it

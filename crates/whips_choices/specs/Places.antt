@@ -3,7 +3,7 @@ use Rattle.std.specs.Prelude.{◌≡◌, ℕ, suc, ◌<◌, ◌==◌, ◌&&◌, 
 use Rattle.whips_model.specs.declared.ColRef.{ColRef}
 use Rattle.whips_model.specs.declared.Cond.{Cond}
 use Rattle.whips_model.specs.Views.{ViewData}
-use Rattle.whips_model.specs.Members.{Has}
+use Rattle.whips_lists.specs.Members.{Has}
 use Rattle.whips_choices.specs.KeyedViews.{KeyedView, IsKeyedView}
 
 abbrev pub column : ℕ → ℕ → ColRef
@@ -15,9 +15,9 @@ place_of [] p c = 0
 place_of (x ∷ out) p c = cond ((x.part == p) && (x.col == c)) 0 (suc (place_of out p c))
 
 -- the places of the key columns of the parts from p on
-abbrev pub places_from : List ColRef → ℕ → List (List ℕ) → List (List ℕ)
-places_from out p [] = []
-places_from out p (cols ∷ keys) = map (place_of out p) cols ∷ places_from out (suc p) keys
+abbrev pub key_places_from : List ColRef → ℕ → List (List ℕ) → List (List ℕ)
+key_places_from out p [] = []
+key_places_from out p (cols ∷ keys) = map (place_of out p) cols ∷ key_places_from out (suc p) keys
 
 abbrev pub joined : List (List ℕ) → List ℕ
 joined [] = []
@@ -25,7 +25,7 @@ joined (cols ∷ keys) = cols ++ joined keys
 
 -- the view with these key columns of its relations
 abbrev pub keyed_view : ViewData → List (List ℕ) → KeyedView
-keyed_view view keys = record { base = view; keys = keys; places = places_from view.out 0 keys; columns = joined (places_from view.out 0 keys) }
+keyed_view view keys = record { base = view; keys = keys; places = key_places_from view.out 0 keys; columns = joined (key_places_from view.out 0 keys) }
 
 -- what the making of a view checks
 pub record IsChecked (view : ViewData) (keys : List (List ℕ)) : Type 0 where

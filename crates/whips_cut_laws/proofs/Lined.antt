@@ -8,8 +8,10 @@ use Rattle.whips_flow.specs.State.{Merge}
 use Rattle.whips_flow.specs.Cuts.{raised_cut, cut_after}
 use Rattle.whips_flow.specs.Settling.{due_lists, rows_after_lists, painted_merge, with_set_taken, with_ready_taken, settled_merge}
 use Rattle.whips_closure_laws.specs.Closure.{IsClosed}
-use Rattle.whips_closure_laws.proofs.Grown.{In, all_in, closure_least}
-use Rattle.whips_cut_laws.proofs.Places.{some_same, cut_after_append, cut_after_split, Climbs, climbs_append, climbs_front, climbs_back, climbs_split, NoneOf, GoesFirst, AllAbove, Rising}
+use Rattle.whips_closure_laws.proofs.Grown.{closure_least}
+use Rattle.whips_lists.proofs.InList.{In, all_in}
+use Rattle.whips_cut_laws.proofs.Places.{cut_after_append, cut_after_split, Climbs, climbs_append, climbs_front, climbs_back, climbs_split, NoneOf, GoesFirst, AllAbove, Rising}
+use Rattle.whips_lists.proofs.Options.{some_same}
 
 abbrev pub joined : List (List Row) → List Row
 joined [] = []

@@ -1,12 +1,11 @@
 -- What holds of the rows, the messages and the cuts at every moment.
 use Rattle.std.proofs.Common.{◌≡◌, ℕ, zero, suc, ◌+◌, ◌-◌, ◌%◌, ◌<◌, ◌≤◌, max, true, false, not, List, [], ◌∷◌, ◌++◌, length, Option, Some, None, cond, eqb, ltb, refl, sym, ap, subst, ◌∙◌, arith, ◌⊎◌, inl, inr, ⊎_elim, append_assoc, append-nil, length-append}
-use Rattle.std.specs.Prelude.{slice_get, slice_index, fold, is_some}
+use Rattle.std.specs.Prelude.{slice_get, slice_index, fold, is_some, replicate}
 use Rattle.std.specs.List.{AllByRecursion, list_any}
 use Rattle.std.proofs.lemmas.Bool.{and_parts, eqb-true, cases_lt}
 use Rattle.std.proofs.lemmas.List.{get_or_past}
-use Rattle.whips_flow.specs.Lists.{changed_at, map_with_place, front, without_front}
+use Rattle.whips_lists.specs.Lists.{changed_at, map_with_place, front, without_front}
 use Rattle.std.specs.Option.{option_and_then}
-use Rattle.std.specs.Prelude.{replicate}
 use Rattle.whips_flow.specs.Facts.{Facts, view_places}
 use Rattle.whips_flow.specs.Painted.{Row}
 use Rattle.whips_flow.specs.State.{Pipeline, Source, Manager, Merge, Writer, QueryStep, NumberedTransaction, SourceMessage, sent_transaction, sent_answer, ManagerMessage, update, reply, start, zero_cut, new_source, oldest_message, oldest_ask, oldest_manager_message, oldest_list, with_source, with_manager}
@@ -16,8 +15,13 @@ use Rattle.whips_flow.specs.Cuts.{raised_cut, cut_after}
 use Rattle.whips_flow.specs.declared.event.Event.{Event}
 use Rattle.whips_flow.specs.declared.event.Event.TheVariants.{Commit, Answer, Integrate, Manage, Rel, Act, Begin, Change, Publish, SessionOpen, SessionScan, SessionFetch, SessionClose}
 use Rattle.whips_cut_laws.specs.Cuts.{Advances, AdvanceFrom, AllAdvance, commit_count_of, committed_at, CutsAdvance}
-use Rattle.whips_cut_laws.proofs.Places.{some_same, EachAt, each_changed, each_at, each_kept, length_changed, index_here, index_other, cut_after_append, cut_after_up, cut_after_length, Climbs, climbs_append, climbs_front, climbs_back, AllAbove, Rising}
+use Rattle.whips_cut_laws.proofs.Places.{EachAt, each_changed, each_at, each_kept, index_here, index_other, cut_after_append, cut_after_up, cut_after_length, Climbs, climbs_append, climbs_front, climbs_back, AllAbove, Rising}
+use Rattle.whips_lists.proofs.Options.{some_same}
+use Rattle.whips_lists.proofs.Lists.{length_changed}
 use Rattle.whips_cut_laws.proofs.Lined.{joined, AllUpTo, IsFilled, AllFilled, InLine, Lined, settled_lined}
+use Rattle.whips_lists.proofs.Options.{of_some_is, some_of}
+use Rattle.whips_lists.proofs.Lists.{front_is}
+use Rattle.std.proofs.lemmas.List.{length-replicate}
 
 -- no view is concerned by the transaction of source y at place k
 abbrev pub IsUnconcerned : Facts → ℕ → ℕ → Type 0
@@ -94,14 +98,6 @@ pub record Orderly (f : Facts) (p : Pipeline) : Type 0 where
   pub width : length p.writer.target_cut ≡ length p.sources
   pub sends : EachAt (SendsInOrder f (length p.writer.target_cut) top) 0 p.sources
   pub turns : Turns p.writer
-
-of_some_is : {A B : Type 0} (o : Option A) (g : A → Option B) (b : B) → option_and_then g o ≡ Some b → (a : A) × (o ≡ Some a) × (g a ≡ Some b)
-of_some_is None g b h = absurd (cc)
-of_some_is (Some a) g b h = (a, refl, h)
-
-front_is : {A : Type 0} (xs : List A) (x : A) → front xs ≡ Some x → xs ≡ x ∷ without_front xs
-front_is [] x h = absurd (cc)
-front_is (y ∷ xs) x h = ap (λ z. z ∷ xs) (some_same y x h)
 
 -- ---- events that leave the rows
 
@@ -332,10 +328,6 @@ publish_kept f p odd h = record {
 change_kept : (f : Facts) (p : Pipeline) → Orderly f p → Orderly f (record p { writer = after_change p.writer })
 change_kept f p h = record { top = h.top; line = h.line; width = h.width; sends = h.sends; turns = record { level = h.turns.level; ahead = h.turns.ahead; chain = h.turns.chain } }
 
-some_of : {A : Type 0} (o : Option A) → is_some o ≡ true → (a : A) × (o ≡ Some a)
-some_of None h = absurd (cc)
-some_of (Some a) h = (a, refl)
-
 next_kept : (f : Facts) (p : Pipeline) (e : Event) → is_enabled f p e ≡ true → Orderly f p → Orderly f (next f p e)
 next_kept f p (Commit y) en h = source_kept f p y after_commit (λ U low s u. ascends_sent U low s.messages s.commit_count u) h
 next_kept f p (Answer y x) en h = answer_kept f p y x (oldest_ask p y x) h
@@ -367,10 +359,6 @@ after_kept f (e ∷ es) p h = after_kept f es (step f p e) (step_kept f p e h)
 
 -- ---- the start
 
-copies_length : {A : Type 0} (n : ℕ) (x : A) → length (replicate n x) ≡ n
-copies_length zero x = refl
-copies_length (suc n) x = ap suc (copies_length n x)
-
 zeros_at : (n y : ℕ) → slice_index (replicate n 0) y ≡ 0
 zeros_at zero y = refl
 zeros_at (suc n) zero = refl
@@ -386,8 +374,8 @@ start_orderly f =
     record {
       top = zero_cut f;
       line = record { sets_climb = tt; filled = tt; in_line = record { climbs = tt; top_is = refl; rising = tt; below = tt } };
-      width = copies_length {A = ℕ} n 0 ∙ sym (copies_length n (new_source f));
-      sends = start_sends f (length (zero_cut f)) (zero_cut f) (zeros_at n) n 0 (omega (arith, copies_length {A = ℕ} n 0));
+      width = length-replicate {A = ℕ} n 0 ∙ sym (length-replicate n (new_source f));
+      sends = start_sends f (length (zero_cut f)) (zero_cut f) (zeros_at n) n 0 (omega (arith, length-replicate {A = ℕ} n 0));
       turns = record { level = λ e. refl; ahead = λ e. absurd (omega (arith, e)); chain = tt };
     }
 

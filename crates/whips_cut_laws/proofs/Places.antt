@@ -1,12 +1,11 @@
 -- Lists by place, and cuts that rows raise.
 use Rattle.std.proofs.Common.{◌≡◌, ℕ, zero, suc, ◌+◌, ◌<◌, ◌≤◌, max, Bool, true, false, not, List, [], ◌∷◌, ◌++◌, length, Some, cond, refl, sym, ap, subst, ◌∙◌, arith}
 use Rattle.std.specs.Prelude.{slice_get, slice_index, filter}
-use Rattle.whips_flow.specs.Lists.{changed_at}
+use Rattle.whips_lists.specs.Lists.{changed_at}
 use Rattle.whips_flow.specs.Painted.{Row}
 use Rattle.whips_flow.specs.Cuts.{raised_cut, cut_after}
-
-pub some_same : {A : Type 0} (x y : A) → Some x ≡ Some y → x ≡ y
-some_same x y e = cc
+use Rattle.whips_lists.proofs.Options.{some_same}
+use Rattle.whips_lists.proofs.Lists.{length_changed}
 
 -- ---- a fact of each element and its place
 
@@ -40,11 +39,6 @@ pub each_kept : {A : Type 0} (P : ℕ → A → Type 0) (g : A → A) (i : ℕ) 
 each_kept P g i [] h k e = tt
 each_kept P g zero (x ∷ xs) h k e = (h k x e.0, e.1)
 each_kept P g (suc i) (x ∷ xs) h k e = (e.0, each_kept P g i xs h (suc k) e.1)
-
-pub length_changed : {A : Type 0} (g : A → A) (i : ℕ) (xs : List A) → length (changed_at i g xs) ≡ length xs
-length_changed g i [] = refl
-length_changed g zero (x ∷ xs) = refl
-length_changed g (suc i) (x ∷ xs) = ap suc (length_changed g i xs)
 
 -- ---- numbers at places
 

@@ -5,7 +5,7 @@ use Rattle.std.specs.List.{list_any}
 use Rattle.std.proofs.lemmas.Bool.{ltb-true, eq-eqb, or_left, or_right, eqb-true, and_parts, not-true}
 use Rattle.std.proofs.lemmas.List.{length-map}
 use Rattle.std.proofs.Math.Nat.{mul-le-mul_left}
-use Rattle.whips_flow.specs.Lists.{changed_at, sum_with_place, front, without_front, places_from, total}
+use Rattle.whips_lists.specs.Lists.{changed_at, sum_with_place, front, without_front, places_from, total}
 use Rattle.std.specs.Option.{option_and_then}
 use Rattle.whips_flow.specs.Facts.{Facts, view_places}
 use Rattle.whips_flow.specs.Painted.{Row, painted_rows, painted_row, closure, is_ready, is_in_or_needed, with_needed, with_needed_again, has_number}
@@ -18,11 +18,10 @@ use Rattle.whips_flow.specs.Work.{ask_work, query_work, update_work, manager_mes
 use Rattle.whips_flow.specs.declared.event.Event.{Event}
 use Rattle.whips_flow.specs.declared.event.Event.TheVariants.{Commit, Answer, Integrate, Manage, Rel, Act, Begin, Change, Publish, SessionOpen, SessionScan, SessionFetch, SessionClose}
 use Rattle.whips_drain_laws.specs.Drain.{IsRoomy, HasAllManagers, EventsLessenWork, DrainEnds}
-use Rattle.whips_drain_laws.proofs.Sums.{some_same, none_some, of_some_is, front_is, sum_at_changed, sum_at_grows, length_changed, length_map_at, total_append, total_front, sum_map_at}
-
-some_of : {A : Type 0} (o : Option A) → is_some o ≡ true → (a : A) × (o ≡ Some a)
-some_of None h = absurd (cc)
-some_of (Some a) h = (a, refl)
+use Rattle.whips_drain_laws.proofs.Sums.{sum_at_changed, sum_at_grows, total_append, total_front, sum_map_at}
+use Rattle.whips_lists.proofs.Options.{some_same, none_some, of_some_is}
+use Rattle.whips_lists.proofs.Lists.{front_is, length_changed, length_map_at}
+use Rattle.whips_lists.proofs.Options.{some_of, none_of, found_passes}
 
 module _ (f : Facts) where
   -- ---- commit
@@ -259,10 +258,6 @@ module _ (f : Facts) where
       let fits = roomy (drop (length p.writer.earlier_cuts - (f.versions - 2)) p.writer.earlier_cuts) p.writer.cut cut (rw (append_assoc) at room) in
       let l = ap length (front_is p.merge.row_sets c.0 c.1) in
       rw (c.2) (omega (arith, fits, ap (λ n. row_work f * n) l))
-    where
-      none_of : {A : Type 0} (o : Option A) → is_some o ≡ false → o ≡ None
-      none_of None h = refl
-      none_of (Some a) h = absurd (cc)
 
   change_falls : (p : Pipeline) → is_enabled f p Change ≡ true → work f (next f p Change) < work f p
   change_falls p h = omega (arith, ltb-true 0 p.writer.changes_left h)
@@ -341,13 +336,6 @@ module _ (f : Facts) where
   next_shaped p (SessionClose s) h = h
 
 -- ---- the drain
-
-found_passes : {A : Type 0} (test : A → Bool) (xs : List A) (a : A) → find test xs ≡ Some a → test a ≡ true
-found_passes test [] a h = none_some a h
-found_passes test (x ∷ xs) a h = elim (test x) as (λ b. test x ≡ b → cond b (Some x) (find test xs) ≡ Some a → test a ≡ true) [
-  | true ↦ λ e g. subst (λ z. test z ≡ true) (some_same x a g) e
-  | false ↦ λ e g. found_passes test xs a g
-] refl h
 
 pub drain_event_done : (f : Facts) (p : Pipeline) (e : Event) → next_drain_event f p ≡ Some e → is_done f p e ≡ true
 drain_event_done f p e h =

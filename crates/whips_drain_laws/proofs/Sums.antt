@@ -1,22 +1,10 @@
 -- Sums over lists of which one element changes.
 use Rattle.std.proofs.Common.{◌≡◌, ℕ, zero, suc, ◌+◌, ◌≤◌, List, [], ◌∷◌, ◌++◌, length, Option, Some, None, refl, ap, arith}
 use Rattle.std.specs.Prelude.{slice_get}
-use Rattle.whips_flow.specs.Lists.{changed_at, map_with_place, sum_with_place, front, without_front, places_from, total}
+use Rattle.whips_lists.specs.Lists.{changed_at, map_with_place, sum_with_place, front, without_front, places_from, total}
 use Rattle.std.specs.Option.{option_and_then}
-
-pub some_same : {A : Type 0} (x y : A) → Some x ≡ Some y → x ≡ y
-some_same x y e = cc
-
-pub none_some : {A : Type 0} {P : Type 0} (x : A) → None ≡ Some x → P
-none_some x e = absurd (cc)
-
-pub of_some_is : {A B : Type 0} (o : Option A) (g : A → Option B) (b : B) → option_and_then g o ≡ Some b → (a : A) × (o ≡ Some a) × (g a ≡ Some b)
-of_some_is None g b h = none_some b h
-of_some_is (Some a) g b h = (a, refl, h)
-
-pub front_is : {A : Type 0} (xs : List A) (x : A) → front xs ≡ Some x → xs ≡ x ∷ without_front xs
-front_is [] x h = none_some x h
-front_is (y ∷ xs) x h = ap (λ z. z ∷ xs) (some_same y x h)
+use Rattle.whips_lists.proofs.Options.{some_same, none_some}
+use Rattle.whips_lists.proofs.Lists.{front_is}
 
 module _ {A : Type 0} (w : ℕ → A → ℕ) (g : A → A) where
   pub sum_at_changed : (k i j : ℕ) (xs : List A) (x : A) → j ≡ k + i → slice_get xs i ≡ Some x → sum_with_place w k (changed_at i g xs) + w j x ≡ sum_with_place w k xs + w j (g x)
@@ -33,15 +21,6 @@ module _ {A : Type 0} (w : ℕ → A → ℕ) (g : A → A) where
       let jk : j ≡ k = omega arith in
       omega (arith, ap (λ n. w n z) jk, ap (λ n. w n (g z)) jk, h z)
   sum_at_grows c k (suc i) j (z ∷ xs) e h = omega (arith, sum_at_grows c (suc k) i j xs (omega arith) h)
-
-pub length_changed : {A : Type 0} (g : A → A) (i : ℕ) (xs : List A) → length (changed_at i g xs) ≡ length xs
-length_changed g i [] = refl
-length_changed g zero (x ∷ xs) = refl
-length_changed g (suc i) (x ∷ xs) = ap suc (length_changed g i xs)
-
-pub length_map_at : {A B : Type 0} (g : ℕ → A → B) (k : ℕ) (xs : List A) → length (map_with_place g k xs) ≡ length xs
-length_map_at g k [] = refl
-length_map_at g k (x ∷ xs) = ap suc (length_map_at g (suc k) xs)
 
 module _ {A : Type 0} (w : A → ℕ) where
   pub total_append : (xs ys : List A) → total w (xs ++ ys) ≡ total w xs + total w ys

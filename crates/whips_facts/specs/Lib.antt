@@ -1,4 +1,3 @@
 pub mod Scripts
-pub mod Queries
 pub mod ScriptFacts
 pub mod Values

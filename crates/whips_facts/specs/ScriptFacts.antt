@@ -1,10 +1,18 @@
 -- What the pipeline asks of a script.
-use Rattle.std.specs.Prelude.{ℕ, suc, nat_lt, List, [], ◌∷◌, length, map, sum, Option, Some, None, if◌then◌else◌}
+use Rattle.std.specs.Prelude.{ℕ, suc, nat_lt, List, [], ◌∷◌, length, map, filter, sum, Option, Some, None, if◌then◌else◌}
+use Rattle.whips_lists.specs.Lists.{places_from}
+use Rattle.whips_choices.specs.KeyedViews.{KeyedView}
 use Rattle.whips_flow.specs.Facts.{Facts, Shortage}
+use Rattle.whips_states.specs.States.{Updates}
+use Rattle.whips_states.specs.Net.{given_at}
 use Rattle.whips_states.specs.Concerns.{concerns}
+use Rattle.whips_steps.specs.Steps.{asked_sources}
 use Rattle.whips_changes.specs.Changes.{net_changes, need}
-use Rattle.whips_facts.specs.Scripts.{Script, SlottedView, value_at, view_at, transaction_at}
-use Rattle.whips_facts.specs.Queries.{asked_sources, origins}
+use Rattle.whips_facts.specs.Scripts.{Script, SlottedView, slotted_views, value_at, view_at, transaction_at}
+
+-- the parts at which a transaction gives the view new tuples; own, for Strobe's insertions
+abbrev pub origins : KeyedView → Updates → List ℕ
+origins view t = filter (λ part. nat_lt 0 (length (given_at view t part))) (places_from 0 (length view.base.relations))
 
 -- how many net changes take a view from its value at one cut to that at another
 abbrev pub change_count : Script → List ℕ → List ℕ → SlottedView → ℕ
@@ -26,13 +34,13 @@ first_shortage s cuts x (v ∷ views) =
 abbrev pub facts_of : Script → Facts
 facts_of s = record {
   transactions = map length s.work;
-  slots = map (λ v. v.slots) s.views;
-  versions = s.versions;
+  slots = map (λ v. v.slots) (slotted_views s);
+  versions = s.setup.versions;
   sessions = s.sessions;
   concerns = λ y k x. concerns (view_at s x).base (transaction_at s y k);
   origins = λ y k x. origins (view_at s x) (transaction_at s y k);
-  asked_sources = λ x o. asked_sources (length s.work) (view_at s x) o;
-  change_count = λ before after. sum (map (change_count s before after) s.views);
-  shortage = λ cuts. first_shortage s cuts 0 s.views;
-  row_counts = λ cut. map (λ v. length (value_at s v.view cut)) s.views;
+  asked_sources = λ x o. asked_sources (view_at s x) o;
+  change_count = λ before after. sum (map (change_count s before after) (slotted_views s));
+  shortage = λ cuts. first_shortage s cuts 0 (slotted_views s);
+  row_counts = λ cut. map (λ v. length (value_at s v.view cut)) (slotted_views s);
 }

@@ -1,19 +1,20 @@
 -- What the values of views during a run are, as statements on the definitions.
-use Rattle.std.specs.Prelude.{◌≡◌, ℕ, max, ◌==◌, List, [], ◌∷◌, ◌++◌, length, take, drop, map, filter, fold, slice_get, Option, Some, None}
+use Rattle.std.specs.Prelude.{◌≡◌, ℕ, ◌<◌, max, ◌==◌, List, [], ◌∷◌, ◌++◌, length, take, drop, map, filter, fold, slice_get, Option, Some, None}
 use Rattle.std.specs.List.{AllByRecursion, flat_map}
-use Rattle.whips_model.specs.Members.{Has}
+use Rattle.whips_lists.specs.Members.{Has}
 use Rattle.whips_model.specs.Tuples.{Codes}
 use Rattle.whips_rel.specs.Updates.{relation_of}
 use Rattle.whips_rel.specs.declared.update.Update.{Update}
 use Rattle.whips_states.specs.States.{Updates, AreSoundTables, AreAllValid}
 use Rattle.whips_choices.specs.KeyedViews.{IsKeyedView}
-use Rattle.whips_flow.specs.Lists.{places_from}
+use Rattle.whips_lists.specs.Lists.{places_from}
 use Rattle.whips_flow.specs.Facts.{Facts}
 use Rattle.whips_flow.specs.Painted.{Row, Colour, black, white, red}
-use Rattle.whips_flow.specs.State.{Pipeline, Manager, NumberedTransaction, start, version_cuts}
+use Rattle.whips_flow.specs.State.{Pipeline, Manager, count_of_source, start, version_cuts}
 use Rattle.whips_flow.specs.Progress.{step, after, first_enabled}
 use Rattle.whips_flow.specs.declared.event.Event.{Event}
-use Rattle.whips_facts.specs.Scripts.{Script, value_at, view_at}
+use Rattle.whips_steps.specs.Steps.{home}
+use Rattle.whips_facts.specs.Scripts.{Script, slotted_views, value_at, view_at}
 use Rattle.whips_facts.specs.ScriptFacts.{facts_of}
 
 -- ---- valid scripts
@@ -22,24 +23,25 @@ use Rattle.whips_facts.specs.ScriptFacts.{facts_of}
 abbrev pub Changes : List Updates → ℕ → Type 0
 Changes ts r = (t : Updates) × (u : Update) × Has t ts × Has u t × (relation_of u ≡ r)
 
--- each relation has one row for a key, each source's transactions are valid one after another, no relation is changed by two sources, and each view's relations are changed by their homes alone; own
+-- each relation of each view is at a source of the script; own
+abbrev pub AreAtSources : Script → Type 0
+AreAtSources s = (x part : ℕ) → part < length (view_at s x).keys → home (view_at s x) part < length s.work
+
+-- each relation has one row for a key, each source's transactions are valid one after another, no relation is changed by two sources, and each view's relations are at sources of the script and changed by these alone; own
 pub record IsValidScript (s : Script) : Type 0 where
-  pub tables : AreSoundTables s.initial
-  pub valid : AllByRecursion (AreAllValid s.initial) s.work
+  pub tables : AreSoundTables s.setup.initial
+  pub valid : AllByRecursion (AreAllValid s.setup.initial) s.work
   pub apart : (y z : ℕ) (ts us : List Updates) (r : ℕ) → slice_get s.work y ≡ Some ts → slice_get s.work z ≡ Some us → Changes ts r → Changes us r → y ≡ z
-  pub views : AllByRecursion (λ v. IsKeyedView v.view) s.views
-  pub homes : (x i : ℕ) (r home : ℕ) → slice_get (view_at s x).base.relations i ≡ Some r → slice_get (view_at s x).base.homes i ≡ Some home
-      → (y : ℕ) (ts : List Updates) → slice_get s.work y ≡ Some ts → Changes ts r → y ≡ home
+  pub views : AllByRecursion (λ v. IsKeyedView v.view) (slotted_views s)
+  pub sources : AreAtSources s
+  pub homes : (x i r z : ℕ) → slice_get (view_at s x).base.relations i ≡ Some r → slice_get (view_at s x).base.homes i ≡ Some z
+      → (y : ℕ) (ts : List Updates) → slice_get s.work y ≡ Some ts → Changes ts r → y ≡ z
 
 -- ---- numbering
 
--- how many of the first i numbered transactions are of source y
-abbrev pub count_of_source : List NumberedTransaction → ℕ → ℕ → ℕ
-count_of_source numbering i y = length (filter (λ n. n.source == y) (take i numbering))
-
 -- the cut of the first i transactions that the integrator took; the painting algorithm 1997, in terms of cuts
 abbrev pub prefix_cut : Script → Pipeline → ℕ → List ℕ
-prefix_cut s p i = map (count_of_source p.numbering i) (places_from 0 (length s.work))
+prefix_cut s p i = map (count_of_source (take i p.numbering)) (places_from 0 (length s.work))
 
 -- ---- action lists
 

@@ -8,5 +8,5 @@ ghost use Rattle.whips_facts.specs.ScriptFacts.{facts_of};
 
 /// Law: the pipeline of a script has a manager for each view of the script.
 pub fn each_view_has_slots()
-    ensures { (s : Script) → length (facts_of s).slots ≡ length s.views }
+    ensures { (s : Script) → length (facts_of s).slots ≡ length s.setup.views }
 {}

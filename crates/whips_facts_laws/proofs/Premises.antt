@@ -1,16 +1,14 @@
 -- Each view has room for its changes, and each asked source is there.
-use Rattle.std.proofs.Common.{◌≡◌, ℕ, zero, suc, ◌+◌, ◌<◌, ◌≤◌, Bool, true, false, List, [], ◌∷◌, ◌++◌, length, Option, Some, None, cond, ltb, refl, ap, arith}
-use Rattle.std.specs.Prelude.{map, filter, sum}
-use Rattle.std.specs.List.{AllByRecursion}
+use Rattle.std.proofs.Common.{◌≡◌, ℕ, suc, ◌+◌, ◌<◌, ◌≤◌, Bool, true, false, List, [], ◌∷◌, ◌++◌, length, Option, Some, None, cond, ltb, refl, ap, arith}
+use Rattle.std.specs.Prelude.{map, sum}
 use Rattle.std.proofs.lemmas.Bool.{ltb-false}
 use Rattle.std.proofs.lemmas.List.{length-map, map-append}
 use Rattle.std.proofs.lemmas.List.Sums.{sum_by-cons}
-use Rattle.whips_flow.specs.Lists.{places_from}
 use Rattle.whips_flow.specs.Facts.{Shortage}
 use Rattle.whips_changes.specs.Changes.{need}
 use Rattle.whips_changes.proofs.Unions.{within_need}
-use Rattle.whips_facts.specs.Scripts.{Script, SlottedView, value_at, view_at}
-use Rattle.whips_facts.specs.Queries.{has_other_part}
+use Rattle.whips_steps.proofs.Stepping.{sources_are}
+use Rattle.whips_facts.specs.Scripts.{Script, SlottedView, slotted_views, value_at, view_at}
 use Rattle.whips_facts.specs.ScriptFacts.{change_count, slot_need, first_shortage}
 use Rattle.whips_facts_laws.specs.FactsLaws.{FactsAreRoomy, FactsAskSourcesOfRun}
 
@@ -31,14 +29,8 @@ module _ (s : Script) (older : List (List ℕ)) (before after : List ℕ) where
       one_more v views x n (first_shortage s (older ++ before ∷ after ∷ []) (suc x) views) (ltb v.slots n) refl (view_fits v) h (all_fit (suc x) views)
 
 pub roomy : FactsAreRoomy
-roomy s older before after h = all_fit s older before after 0 s.views h
-
-filter_below : (n : ℕ) (test : ℕ → Bool) (k m : ℕ) → k + m ≤ n → AllByRecursion (λ y. y < n) (filter test (places_from k m))
-filter_below n test k zero le = tt
-filter_below n test k (suc m) le = elim (test k) as (λ b. AllByRecursion (λ y. y < n) (cond b (k ∷ filter test (places_from (suc k) m)) (filter test (places_from (suc k) m)))) [
-  | true ↦ (omega arith, filter_below n test (suc k) m (omega arith))
-  | false ↦ filter_below n test (suc k) m (omega arith)
-]
+roomy s older before after h = all_fit s older before after 0 (slotted_views s) h
 
 pub asks_there : FactsAskSourcesOfRun
-asks_there s x o = filter_below (length (map (λ ts. length ts) s.work)) (has_other_part (view_at s x) o) 0 (length s.work) (omega (arith, length-map s.work (λ ts. length ts)))
+asks_there s at x o =
+    sources_are (λ y. y < length (map (λ ts. length ts) s.work)) (view_at s x) o (λ part lt. omega (arith, at x part lt, length-map s.work (λ ts. length ts)))

@@ -1,6 +1,6 @@
 -- The cut of a version.
 use Rattle.std.specs.Prelude.{ℕ, max, List, fold}
-use Rattle.whips_flow.specs.Lists.{changed_at}
+use Rattle.whips_lists.specs.Lists.{changed_at}
 use Rattle.whips_flow.specs.Painted.{Row}
 
 -- the cut with the row's source counted up to the row's transaction, where it wasn't already

@@ -2,7 +2,7 @@
 use Rattle.std.specs.Prelude.{ℕ, suc, ◌-◌, Bool, true, false, ◌&&◌, ◌==◌, not, nat_lt, List, [], ◌∷◌, ◌++◌, length, drop, map, filter, fold, slice_index, Option, Some, None, if◌then◌else◌}
 use Rattle.std.specs.List.{list_any}
 use Rattle.std.specs.Option.{option_and_then}
-use Rattle.whips_flow.specs.Lists.{changed_at, map_with_place, without_front}
+use Rattle.whips_lists.specs.Lists.{changed_at, map_with_place, without_front}
 use Rattle.whips_flow.specs.Facts.{Facts, Shortage, view_places}
 use Rattle.whips_flow.specs.Painted.{Row, Colour, black, white, with_row}
 use Rattle.whips_flow.specs.State.{NumberedTransaction, QueryStep, SourceMessage, sent_transaction, sent_answer, ManagerMessage, update, reply, Source, Manager, Merge, Writer, Pipeline, oldest_row_set, with_source, with_manager}

@@ -1,6 +1,6 @@
 -- What the pipeline asks of a script. Sources, views, parts of a view and sessions are named by their place from 0, the transactions of a source by their place from 1. A cut is a list with a count of transactions for each source.
 use Rattle.std.specs.Prelude.{ℕ, Bool, List, length, Option}
-use Rattle.whips_flow.specs.Lists.{places_from}
+use Rattle.whips_lists.specs.Lists.{places_from}
 
 -- a view that has fewer slots than a transaction of the warehouse needs; own
 pub record Shortage : Type 0 where

@@ -1,8 +1,8 @@
-pub mod Lists
 pub mod Events
 pub mod Facts
 pub mod Painted
 pub mod State
+pub mod Staleness
 pub mod Settling
 pub mod Cuts
 pub mod Effects

@@ -2,7 +2,7 @@
 use Rattle.std.specs.Prelude.{ℕ, zero, suc, ◌%◌, Bool, false, ◌&&◌, ◌==◌, not, nat_lt, List, ◌∷◌, ◌++◌, map, find, fold, slice_get, slice_index, Option, Some, None, is_some, if◌then◌else◌}
 use Rattle.std.specs.List.{flat_map}
 use Rattle.std.specs.Option.{option_and_then}
-use Rattle.whips_flow.specs.Lists.{front}
+use Rattle.whips_lists.specs.Lists.{front}
 use Rattle.whips_flow.specs.Facts.{Facts, Shortage, view_places, source_places}
 use Rattle.whips_flow.specs.State.{Source, Pipeline, oldest_message, oldest_ask, oldest_manager_message, oldest_list, oldest_row_set, with_source, with_manager}
 use Rattle.whips_flow.specs.Effects.{after_commit, after_answer, without_message, after_integrate, without_manager_message, after_message, with_list_if_answered, after_rel, after_act, next_cut, begin_shortage, after_begin, after_change, after_publish}

@@ -1,7 +1,7 @@
 -- The state of the pipeline, by actor. Queues are lists, oldest entry first.
-use Rattle.std.specs.Prelude.{ℕ, List, [], ◌∷◌, ◌++◌, length, replicate, slice_get, Option}
+use Rattle.std.specs.Prelude.{ℕ, ◌==◌, List, [], ◌∷◌, ◌++◌, length, filter, replicate, slice_get, Option}
 use Rattle.std.specs.Option.{option_and_then}
-use Rattle.whips_flow.specs.Lists.{changed_at, front}
+use Rattle.whips_lists.specs.Lists.{changed_at, front}
 use Rattle.whips_flow.specs.Facts.{Facts}
 use Rattle.whips_flow.specs.Painted.{Row, PaintedTable}
 
@@ -12,6 +12,10 @@ pub record NumberedTransaction : Type 0 where
   pub number : ℕ
   pub source : ℕ
   pub place : ℕ
+
+-- how many of the numbered transactions are of source y
+abbrev pub count_of_source : List NumberedTransaction → ℕ → ℕ
+count_of_source numbering y = length (filter (λ n. n.source == y) numbering)
 
 -- a step, from 1, of the query that a view's manager began at the part `origin` for the transaction with this number; Strobe 1996, with origins of its own
 pub record QueryStep : Type 0 where

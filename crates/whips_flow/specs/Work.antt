@@ -1,6 +1,6 @@
 -- The work that is left in a pipeline: a number that each event makes smaller, and so a bound on the drain.
 use Rattle.std.specs.Prelude.{ℕ, suc, ◌+◌, ◌-◌, ◌*◌, ◌%◌, List, length, slice_index, sum, if◌then◌else◌}
-use Rattle.whips_flow.specs.Lists.{sum_with_place, total, places_from}
+use Rattle.whips_lists.specs.Lists.{sum_with_place, total, places_from}
 use Rattle.whips_flow.specs.Facts.{Facts, view_places}
 use Rattle.whips_flow.specs.State.{QueryStep, SourceMessage, sent_transaction, sent_answer, ManagerMessage, update, reply, Source, Manager, Pipeline}
 

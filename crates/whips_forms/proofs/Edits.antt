@@ -12,7 +12,8 @@ use Rattle.whips_model.specs.Relation.{Table}
 use Rattle.whips_choices.proofs.Rows.{row_found}
 use Rattle.whips_rel.specs.declared.update.Update.{Update}
 use Rattle.whips_rel.specs.declared.update.Update.TheVariants.{Insert, Delete}
-use Rattle.whips_states.specs.States.{changed_at, with_row, without_row, updated, applied}
+use Rattle.whips_states.specs.States.{with_row, without_row, updated, applied}
+use Rattle.whips_lists.specs.Lists.{changed_at}
 use Rattle.whips_forms.specs.Rows.{codes_in, new_row_in, named_row_in, rows_added, update_of, update_at, IsMadeIn}
 
 -- a delete by key takes out the row that it names

@@ -32,7 +32,8 @@ pub fn parse(alloc: Global, bytes: &[u8]) -> Result<Option<Value>, ReadErr>
 /// The member of an object with this name.
 pub fn member<'a>(value: &'a Value, name: &str) -> Result<&'a Value, ReadErr>
     ensures ok { IfOk result (λ v. get name.now (view value.now) ≡ Some (view v.now)) }
-    ensures refused { IfErr result (λ e. e ≢ ReadErr.NoMemory → get name.now (view value.now) ≡ None) }
+    ensures refused { IfErr result (λ e. e ≢ ReadErr.NoMemory
+        → get name.now (view value.now) ≡ None) }
 {
     match value.get(name) {
         Some(found) => Ok(found),
@@ -67,8 +68,10 @@ pub fn elements_within<'a>(
     least: usize,
     most: usize,
 ) -> Result<&'a [Value], ReadErr>
-    ensures ok { IfOk result (λ vs. elements_within least most (view value.now) ≡ Some (map view vs.now)) }
-    ensures refused { IfErr result (λ e. e ≢ ReadErr.NoMemory → elements_within least most (view value.now) ≡ None) }
+    ensures ok { IfOk result (λ vs. elements_within least most (view value.now)
+        ≡ Some (map view vs.now)) }
+    ensures refused { IfErr result (λ e. e ≢ ReadErr.NoMemory
+        → elements_within least most (view value.now) ≡ None) }
 {
     let items = elements(value)?;
     if least <= items.len() && items.len() <= most {
@@ -105,19 +108,13 @@ fn is_member_of(form: ObjectForm, name: &str) -> bool
     ensures { result ≡ is_member_of form name.now }
 {
     match form {
-        ObjectForm::Document => name == "sources" || name == "views" || name == "sessions",
-        ObjectForm::Source => name == "name" || name == "relations" || name == "updates",
-        ObjectForm::Relation => {
-            name == "name" || name == "columns" || name == "key" || name == "rows"
-        }
-        ObjectForm::View => {
-            name == "name"
-                || name == "relations"
-                || name == "equal"
-                || name == "where"
-                || name == "out"
-                || name == "slots"
-        }
+        ObjectForm::Document => matches!(name, "sources" | "views" | "sessions"),
+        ObjectForm::Source => matches!(name, "name" | "relations" | "updates"),
+        ObjectForm::Relation => matches!(name, "name" | "columns" | "key" | "rows"),
+        ObjectForm::View => matches!(
+            name,
+            "name" | "relations" | "equal" | "where" | "out" | "slots"
+        ),
     }
 }
 

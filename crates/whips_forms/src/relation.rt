@@ -75,8 +75,10 @@ fn read_column(alloc: Global, value: &Value) -> Result<Text, ReadErr>
 
 /// The columns.
 fn read_columns(alloc: Global, value: &Value) -> Result<Vec<Text>, ReadErr>
-    ensures ok { IfOk result (λ v. (columns_in (view value.now) ≡ Some v.items) × (length v.items ≤ 8)) }
-    ensures refused { IfErr result (λ e. e ≢ ReadErr.NoMemory → columns_in (view value.now) ≡ None) }
+    ensures ok { IfOk result (λ v. (columns_in (view value.now) ≡ Some v.items)
+        × (length v.items ≤ 8)) }
+    ensures refused { IfErr result (λ e. e ≢ ReadErr.NoMemory
+        → columns_in (view value.now) ≡ None) }
 {
     let items = elements_within(value, 1, 8)?;
     let mut columns = Vec::new(alloc);
@@ -110,8 +112,10 @@ fn place_of(names: &[Text], text: &str) -> Option<usize>
 
 /// The place of a name among these.
 pub fn read_place(names: &[Text], value: &Value) -> Result<usize, ReadErr>
-    ensures ok { IfOk result (λ i. (place_in names.now (view value.now) ≡ Some i) × (i < length names.now)) }
-    ensures refused { IfErr result (λ e. e ≢ ReadErr.NoMemory → place_in names.now (view value.now) ≡ None) }
+    ensures ok { IfOk result (λ i. (place_in names.now (view value.now) ≡ Some i)
+        × (i < length names.now)) }
+    ensures refused { IfErr result (λ e. e ≢ ReadErr.NoMemory
+        → place_in names.now (view value.now) ≡ None) }
 {
     match value.as_str() {
         Some(text) => place_of(names, text).ok_or(ReadErr::Unbuilt),
@@ -122,8 +126,10 @@ pub fn read_place(names: &[Text], value: &Value) -> Result<usize, ReadErr>
 /// The place of each name among these.
 fn read_places(alloc: Global, names: &[Text], items: &[Value]) -> Result<Vec<u32>, ReadErr>
     requires { length names.now ≤ 16 }
-    ensures ok { IfOk result (λ v. (each (place_in names.now) (map view items.now) ≡ Some v.items) × AllByRecursion (λ c. c < length names.now) v.items) }
-    ensures refused { IfErr result (λ e. e ≢ ReadErr.NoMemory → each (place_in names.now) (map view items.now) ≡ None) }
+    ensures ok { IfOk result (λ v. (each (place_in names.now) (map view items.now) ≡ Some v.items)
+        × AllByRecursion (λ c. c < length names.now) v.items) }
+    ensures refused { IfErr result (λ e. e ≢ ReadErr.NoMemory
+        → each (place_in names.now) (map view items.now) ≡ None) }
 {
     let mut places = Vec::new(alloc);
     for item in items {
@@ -135,8 +141,10 @@ fn read_places(alloc: Global, names: &[Text], items: &[Value]) -> Result<Vec<u32
 /// The places of the key columns.
 fn read_key(alloc: Global, names: &[Text], value: &Value) -> Result<Vec<u32>, ReadErr>
     requires { length names.now ≤ 16 }
-    ensures ok { IfOk result (λ v. (key_in names.now (view value.now) ≡ Some v.items) × AllByRecursion (λ c. c < length names.now) v.items) }
-    ensures refused { IfErr result (λ e. e ≢ ReadErr.NoMemory → key_in names.now (view value.now) ≡ None) }
+    ensures ok { IfOk result (λ v. (key_in names.now (view value.now) ≡ Some v.items)
+        × AllByRecursion (λ c. c < length names.now) v.items) }
+    ensures refused { IfErr result (λ e. e ≢ ReadErr.NoMemory
+        → key_in names.now (view value.now) ≡ None) }
 {
     let items = elements_within(value, 1, 8)?;
     let places = read_places(alloc, names, items)?;
@@ -157,7 +165,8 @@ fn number_kinds(alloc: Global, count: usize) -> Result<Vec<Kind>, ReadErr>
 /// A relation with number columns.
 fn read_relation(alloc: Global, value: &Value) -> Result<RelationForm, ReadErr>
     ensures ok { IfOk result (λ r. relation_in (view value.now) ≡ Some r) }
-    ensures refused { IfErr result (λ e. e ≢ ReadErr.NoMemory → relation_in (view value.now) ≡ None) }
+    ensures refused { IfErr result (λ e. e ≢ ReadErr.NoMemory
+        → relation_in (view value.now) ≡ None) }
 {
     if !is_object_of(value, ObjectForm::Relation) {
         return Err(ReadErr::Unbuilt);
@@ -179,7 +188,8 @@ fn read_relation(alloc: Global, value: &Value) -> Result<RelationForm, ReadErr>
 /// The relations of a source.
 pub fn read_relations(alloc: Global, value: &Value) -> Result<Vec<RelationForm>, ReadErr>
     ensures ok { IfOk result (λ v. relations_in (view value.now) ≡ Some v.items) }
-    ensures refused { IfErr result (λ e. e ≢ ReadErr.NoMemory → relations_in (view value.now) ≡ None) }
+    ensures refused { IfErr result (λ e. e ≢ ReadErr.NoMemory
+        → relations_in (view value.now) ≡ None) }
 {
     let items = elements_within(value, 1, 4)?;
     let mut relations = Vec::new(alloc);

@@ -35,8 +35,10 @@ pub fn read_number(value: &Value) -> Result<u64, ReadErr>
 
 /// As many number values as the width.
 fn read_codes(alloc: Global, value: &Value, width: usize) -> Result<Tuple, ReadErr>
-    ensures ok { IfOk result (λ t. (codes_in width (view value.now) ≡ Some t) × (length t ≡ width)) }
-    ensures refused { IfErr result (λ e. e ≢ ReadErr.NoMemory → codes_in width (view value.now) ≡ None) }
+    ensures ok { IfOk result (λ t. (codes_in width (view value.now) ≡ Some t)
+        × (length t ≡ width)) }
+    ensures refused { IfErr result (λ e. e ≢ ReadErr.NoMemory
+        → codes_in width (view value.now) ≡ None) }
 {
     let items = elements(value)?;
     if items.len() != width {
@@ -51,9 +53,13 @@ fn read_codes(alloc: Global, value: &Value, width: usize) -> Result<Tuple, ReadE
 
 /// Puts in a row whose key isn't there yet, and gives it.
 fn insert_row(alloc: Global, relation: &mut Relation, value: &Value) -> Result<Tuple, ReadErr>
-    ensures ok { IfOk result (λ t. (new_row_in relation.old.columns relation.old.rows (view value.now) ≡ Some t)
-        × (relation.new ≡ record relation.old { rows = put_row relation.old.columns.key t relation.old.rows })) }
-    ensures refused { IfErr result (λ e. e ≢ ReadErr.NoMemory → new_row_in relation.old.columns relation.old.rows (view value.now) ≡ None) }
+    ensures ok { IfOk result (λ t. (new_row_in relation.old.columns relation.old.rows
+        (view value.now) ≡ Some t)
+        × (relation.new
+            ≡ record relation.old { rows = put_row relation.old.columns.key t
+            relation.old.rows })) }
+    ensures refused { IfErr result (λ e. e ≢ ReadErr.NoMemory
+        → new_row_in relation.old.columns relation.old.rows (view value.now) ≡ None) }
 {
     let tuple = read_codes(alloc, value, relation.schema().kinds().len())?;
     let row = tuple.copy()?;
@@ -66,9 +72,12 @@ fn insert_row(alloc: Global, relation: &mut Relation, value: &Value) -> Result<T
 
 /// Takes out the row with a key, and gives it.
 fn delete_row(alloc: Global, relation: &mut Relation, value: &Value) -> Result<Tuple, ReadErr>
-    ensures ok { IfOk result (λ t. (named_row_in relation.old.columns relation.old.rows (view value.now) ≡ Some t)
-        × (relation.new ≡ record relation.old { rows = without_key relation.old.columns.key (at_columns relation.old.columns.key t) relation.old.rows })) }
-    ensures refused { IfErr result (λ e. e ≢ ReadErr.NoMemory → named_row_in relation.old.columns relation.old.rows (view value.now) ≡ None) }
+    ensures ok { IfOk result (λ t. (named_row_in relation.old.columns relation.old.rows
+        (view value.now) ≡ Some t)
+        × (relation.new ≡ record relation.old { rows = without_key relation.old.columns.key
+            (at_columns relation.old.columns.key t) relation.old.rows })) }
+    ensures refused { IfErr result (λ e. e ≢ ReadErr.NoMemory
+        → named_row_in relation.old.columns relation.old.rows (view value.now) ≡ None) }
 {
     let key = read_codes(alloc, value, relation.schema().key().len())?;
     match relation.delete(&key) {
@@ -86,8 +95,12 @@ fn make_update(
     kind: &Value,
     values: &Value,
 ) -> Result<Update, ReadErr>
-    ensures ok { IfOk result (λ u. (option_and_then (update_of relation.old number (view values.now)) (as_str (view kind.now)) ≡ Some u) × IsMadeIn number relation.old u relation.new) }
-    ensures refused { IfErr result (λ e. e ≢ ReadErr.NoMemory → option_and_then (update_of relation.old number (view values.now)) (as_str (view kind.now)) ≡ None) }
+    ensures ok { IfOk result (λ u. (option_and_then
+        (update_of relation.old number (view values.now)) (as_str (view kind.now)) ≡ Some u)
+        × IsMadeIn number relation.old u relation.new) }
+    ensures refused { IfErr result (λ e. e ≢ ReadErr.NoMemory
+        → option_and_then (update_of relation.old number (view values.now))
+        (as_str (view kind.now)) ≡ None) }
 {
     let Some(kind) = kind.as_str() else {
         return Err(ReadErr::Unbuilt);
@@ -113,8 +126,10 @@ fn update_at(
 ) -> Result<Update, ReadErr>
     requires there { place < length relations.old.items }
     requires few { length relations.old.items ≤ 32 }
-    ensures ok { IfOk result (λ u. (update_at relations.old.items (view kind.now) (view values.now) place ≡ Some u) × (relations.new.items ≡ updated relations.old.items u)) }
-    ensures refused { IfErr result (λ e. e ≢ ReadErr.NoMemory → update_at relations.old.items (view kind.now) (view values.now) place ≡ None) }
+    ensures ok { IfOk result (λ u. (update_at relations.old.items (view kind.now)
+        (view values.now) place ≡ Some u) × (relations.new.items ≡ updated relations.old.items u)) }
+    ensures refused { IfErr result (λ e. e ≢ ReadErr.NoMemory
+        → update_at relations.old.items (view kind.now) (view values.now) place ≡ None) }
 {
     make_update(alloc, place as u32, &mut relations[place], kind, values)
 }
@@ -128,8 +143,10 @@ fn read_update(
 ) -> Result<Update, ReadErr>
     requires names { length names.now ≡ length relations.old.items }
     requires few { length names.now ≤ 32 }
-    ensures ok { IfOk result (λ u. (update_in names.now relations.old.items (view value.now) ≡ Some u) × (relations.new.items ≡ updated relations.old.items u)) }
-    ensures refused { IfErr result (λ e. e ≢ ReadErr.NoMemory → update_in names.now relations.old.items (view value.now) ≡ None) }
+    ensures ok { IfOk result (λ u. (update_in names.now relations.old.items (view value.now)
+        ≡ Some u) × (relations.new.items ≡ updated relations.old.items u)) }
+    ensures refused { IfErr result (λ e. e ≢ ReadErr.NoMemory
+        → update_in names.now relations.old.items (view value.now) ≡ None) }
 {
     match elements(value)? {
         [kind, name, values] => {
@@ -148,8 +165,10 @@ pub fn read_rows(
 ) -> Result<(), ReadErr>
     requires { relation.old.rows ≡ [] }
     ensures columns { OnOk result (relation.new.columns ≡ relation.old.columns) }
-    ensures ok { OnOk result (rows_in relation.old.columns (option_map (λ v. view v.now) rows.entry) ≡ Some relation.new.rows) }
-    ensures refused { IfErr result (λ e. e ≢ ReadErr.NoMemory → rows_in relation.old.columns (option_map (λ v. view v.now) rows.entry) ≡ None) }
+    ensures ok { OnOk result (rows_in relation.old.columns (option_map (λ v. view v.now) rows.entry)
+        ≡ Some relation.new.rows) }
+    ensures refused { IfErr result (λ e. e ≢ ReadErr.NoMemory
+        → rows_in relation.old.columns (option_map (λ v. view v.now) rows.entry) ≡ None) }
 {
     let Some(rows) = rows else {
         return Ok(());
@@ -171,8 +190,12 @@ fn read_updates(
 ) -> Result<Vec<Update>, ReadErr>
     requires names { length names.now ≡ length relations.old.items }
     requires few { length names.now ≤ 32 }
-    ensures ok { IfOk result (λ us. (updates_in names.now relations.old.items (option_map (λ v. view v.now) updates.entry) ≡ Some us.items) × (relations.new.items ≡ applied relations.old.items us.items)) }
-    ensures refused { IfErr result (λ e. e ≢ ReadErr.NoMemory → updates_in names.now relations.old.items (option_map (λ v. view v.now) updates.entry) ≡ None) }
+    ensures ok { IfOk result (λ us. (updates_in names.now relations.old.items
+        (option_map (λ v. view v.now) updates.entry) ≡ Some us.items)
+        × (relations.new.items ≡ applied relations.old.items us.items)) }
+    ensures refused { IfErr result (λ e. e ≢ ReadErr.NoMemory
+        → updates_in names.now relations.old.items
+        (option_map (λ v. view v.now) updates.entry) ≡ None) }
 {
     let mut made = Vec::new(alloc);
     let Some(updates) = updates else {
@@ -194,8 +217,12 @@ pub fn read_work(
 ) -> Result<Vec<Vec<Update>>, ReadErr>
     requires names { length names.now ≡ length relations.old.items }
     requires few { length names.now ≤ 32 }
-    ensures ok { IfOk result (λ work. (work_in names.now relations.old.items (map view sources.now) ≡ Some (map (λ us. us.items) work.items)) × (relations.new.items ≡ all_applied relations.old.items (map (λ us. us.items) work.items))) }
-    ensures refused { IfErr result (λ e. e ≢ ReadErr.NoMemory → work_in names.now relations.old.items (map view sources.now) ≡ None) }
+    ensures ok { IfOk result (λ work. (work_in names.now relations.old.items (map view sources.now)
+        ≡ Some (map (λ us. us.items) work.items))
+        × (relations.new.items ≡ all_applied relations.old.items
+        (map (λ us. us.items) work.items))) }
+    ensures refused { IfErr result (λ e. e ≢ ReadErr.NoMemory
+        → work_in names.now relations.old.items (map view sources.now) ≡ None) }
 {
     let mut work = Vec::new(alloc);
     for source in sources {

@@ -48,7 +48,8 @@ impl Sources {
     fn add(&mut self, alloc: Global, value: &Value) -> Result<(), ReadErr>
         requires { length self.old.names ≤ 8 }
         ensures ok { OnOk result (source_added self.old (view value.now) ≡ Some self.new) }
-        ensures refused { IfErr result (λ e. e ≢ ReadErr.NoMemory → source_added self.old (view value.now) ≡ None) }
+        ensures refused { IfErr result (λ e. e ≢ ReadErr.NoMemory
+            → source_added self.old (view value.now) ≡ None) }
     {
         if !is_object_of(value, ObjectForm::Source) {
             return Err(ReadErr::Unbuilt);
@@ -66,8 +67,10 @@ impl Sources {
 
 /// The sources of a script. Their updates are read later.
 pub fn read_sources(alloc: Global, value: &Value) -> Result<Sources, ReadErr>
-    ensures ok { IfOk result (λ s. (sources_in (view value.now) ≡ Some s) × (length s.relations ≤ 32) × (length s.names ≤ 8)) }
-    ensures refused { IfErr result (λ e. e ≢ ReadErr.NoMemory → sources_in (view value.now) ≡ None) }
+    ensures ok { IfOk result (λ s. (sources_in (view value.now) ≡ Some s)
+        × (length s.relations ≤ 32) × (length s.names ≤ 8)) }
+    ensures refused { IfErr result (λ e. e ≢ ReadErr.NoMemory
+        → sources_in (view value.now) ≡ None) }
 {
     let items = elements_within(value, 1, 8)?;
     let mut sources = Sources::new(alloc);

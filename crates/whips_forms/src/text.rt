@@ -58,7 +58,8 @@ impl Text {
     /// The name that the value is.
     pub fn read_name(alloc: Global, value: &Value) -> Result<Text, ReadErr>
         ensures ok { IfOk result (λ t. name_in (view value.now) ≡ Some t) }
-        ensures refused { IfErr result (λ e. e ≢ ReadErr.NoMemory → name_in (view value.now) ≡ None) }
+        ensures refused { IfErr result (λ e. e ≢ ReadErr.NoMemory
+            → name_in (view value.now) ≡ None) }
     {
         match value.as_str() {
             Some(text) => {

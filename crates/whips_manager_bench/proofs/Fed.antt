@@ -6,7 +6,8 @@ use Rattle.whips_model.specs.Tuples.{Codes, Columns}
 use Rattle.whips_choices.specs.KeyedViews.{KeyedView}
 use Rattle.whips_states.specs.States.{Updates}
 use Rattle.whips_states.specs.Net.{given_at, taken}
-use Rattle.whips_steps.specs.Steps.{numbers_below, asked_sources}
+use Rattle.whips_steps.specs.Steps.{asked_sources}
+use Rattle.whips_lists.specs.Lists.{places_from}
 use Rattle.whips_view.specs.ViewDefs.{View, keyed}
 use Rattle.whips_managers.specs.Managers.{ManagerState, with_deletion, with_deletions, with_put, with_query, put_or_asked, with_given, with_all_given, with_transaction}
 use Rattle.whips_view.specs.Widths.{widths_of}
@@ -49,4 +50,4 @@ module _ (v : KeyedView) (columns : Columns) (number : ℕ) where
 
   -- after a transaction the last number is its own
   pub last_taken : (m : ManagerState) (t : Updates) → (with_transaction v columns m number t).last ≡ number
-  last_taken m t = last_all_given (given_at v t) (numbers_below (length v.keys)) (with_deletions (record m { last = number }) (taken v t)) (last_deleted (taken v t) (record m { last = number }))
+  last_taken m t = last_all_given (given_at v t) (places_from 0 (length v.keys)) (with_deletions (record m { last = number }) (taken v t)) (last_deleted (taken v t) (record m { last = number }))

@@ -5,8 +5,8 @@ use Rattle.std.proofs.lemmas.List.{get_or-set_same, get_or-set_other, length-set
 use Rattle.whips_model.specs.Tuples.{Codes, Columns, at_columns, has_key, row_at, put_row, without_key, IsKeyed}
 use Rattle.whips_model.specs.Views.{Choice, meets, out_row, rows_of}
 use Rattle.whips_model.proofs.Keyed.{keyed_put, keyed_filter}
-use Rattle.whips_model.specs.Members.{Has}
-use Rattle.whips_model.proofs.Members.{has_first, has_later, has_none, has_cases, has_same, has_left, has_right, has_either, has_mapped, has_before}
+use Rattle.whips_lists.specs.Members.{Has, AreDistinct}
+use Rattle.whips_lists.proofs.Members.{has_first, has_later, has_none, has_cases, has_same, has_left, has_right, has_either, has_mapped, has_before, distinct_more}
 use Rattle.whips_choices.specs.KeyedViews.{KeyedView, IsKeyedView, AreTables, IsChoiceOf}
 use Rattle.whips_choices.specs.Edits.{put_missing, put_rows}
 use Rattle.whips_choices.specs.Partials.{Partial, slot, meets_on, meets_at, seed}
@@ -15,7 +15,7 @@ use Rattle.whips_choices.proofs.Values.{value_choice, value_row, value_in_order,
 use Rattle.whips_choices.proofs.Parts.{slot_in_range, seed_width, seed_at, seed_other, seed_part, seed_below, part_meets, below_meets}
 use Rattle.whips_trans_laws.proofs.ByKey.{puts_keyed}
 use Rattle.whips_steps.specs.Steps.{asked_sources, step_parts, is_filled}
-use Rattle.whips_steps.specs.Answers.{AreDistinct, projected, unstruck}
+use Rattle.whips_steps.specs.Answers.{projected, unstruck}
 use Rattle.whips_steps.proofs.Fills.{with_all, IsFilling, fill_all, found_all, differ_rows}
 use Rattle.whips_steps.proofs.Whole.{found_is, in_found}
 use Rattle.whips_steps.proofs.Stepping.{parts_distinct, parts_free, filled_next, filled_first}
@@ -48,10 +48,6 @@ module _ {X : Type 0} where
   distinct_rest x [] after d = d.1
   distinct_rest x (y ∷ before) after d = (λ k. d.0 (mid_rest y x before after k), distinct_rest x before after d.1)
 
-  pub distinct_more : (x : X) (xs : List X) → AreDistinct xs → (Has x xs → ⊥) → AreDistinct (xs ++ x ∷ [])
-  distinct_more x [] d h = (has_none x, tt)
-  distinct_more x (y ∷ xs) d h = (λ k. elim (has_either y xs (x ∷ []) k) [ inl g ↦ d.0 g | inr g ↦ elim (has_cases y x [] g) [ inl e ↦ h (subst (λ z. Has z (y ∷ xs)) e (has_first y xs)) | inr m ↦ has_none y m ] ], distinct_more x xs d.1 (λ k. h (has_later x y xs k)))
-
 -- ---- actions
 
 pub applied_more : (v : KeyedView) (actions : List Action) (a : Action) (rows : List Codes) → applied v (actions ++ a ∷ []) rows ≡ acted v (applied v actions rows) a
@@ -73,8 +69,8 @@ keyed_applied v (a ∷ actions) rows h = keyed_applied v actions _ (keyed_acted 
 -- ---- tables that change at one part
 
 module _ (v : KeyedView) (tables : List (List Codes)) (good : AreTables v tables) (i : ℕ) (lt : i < length v.keys) (new : List Codes) where
-  pub changed_at : get_or (set tables i new) i [] ≡ new
-  changed_at = get_or-set_same tables i new [] (omega (arith, good.parts))
+  pub changed_here : get_or (set tables i new) i [] ≡ new
+  changed_here = get_or-set_same tables i new [] (omega (arith, good.parts))
 
   pub changed_off : (j : ℕ) → j ≢ i → get_or (set tables i new) j [] ≡ get_or tables j []
   changed_off j ne = get_or-set_other tables i j new [] ne
@@ -83,19 +79,19 @@ module _ (v : KeyedView) (tables : List (List Codes)) (good : AreTables v tables
   changed_tables h = record { parts = length-set tables i new ∙ good.parts; keyed = λ j below. keyed j below (cases_eq j i) }
     where
       keyed : (j : ℕ) → j < length v.keys → (j ≡ i) ⊎ (j ≢ i) → IsKeyed (get_or v.keys j []) (get_or (set tables i new) j [])
-      keyed j below (inl e) = subst (λ z. IsKeyed (get_or v.keys z []) (get_or (set tables i new) z [])) (sym e) (subst (λ z. IsKeyed (get_or v.keys i []) z) (sym changed_at) h)
+      keyed j below (inl e) = subst (λ z. IsKeyed (get_or v.keys z []) (get_or (set tables i new) z [])) (sym e) (subst (λ z. IsKeyed (get_or v.keys i []) z) (sym changed_here) h)
       keyed j below (inr ne) = subst (λ z. IsKeyed (get_or v.keys j []) z) (sym (changed_off j ne)) (good.keyed j below)
 
   -- what goes into the tables where it goes into the part
   pub into : ((t : Codes) → Has t (get_or tables i []) → Has t new) → (j : ℕ) (t : Codes) → Has t (get_or tables j []) → Has t (get_or (set tables i new) j [])
   into h j t k = elim (cases_eq j i) [
-    | inl e ↦ subst (λ z. Has t (get_or (set tables i new) z [])) (sym e) (subst (λ z. Has t z) (sym changed_at) (h t (subst (λ z. Has t (get_or tables z [])) e k)))
+    | inl e ↦ subst (λ z. Has t (get_or (set tables i new) z [])) (sym e) (subst (λ z. Has t z) (sym changed_here) (h t (subst (λ z. Has t (get_or tables z [])) e k)))
     | inr ne ↦ subst (λ z. Has t z) (sym (changed_off j ne)) k
   ]
 
   pub out_of : ((t : Codes) → Has t new → Has t (get_or tables i [])) → (j : ℕ) (t : Codes) → Has t (get_or (set tables i new) j []) → Has t (get_or tables j [])
   out_of h j t k = elim (cases_eq j i) [
-    | inl e ↦ subst (λ z. Has t (get_or tables z [])) (sym e) (h t (subst (λ z. Has t z) changed_at (subst (λ z. Has t (get_or (set tables i new) z [])) e k)))
+    | inl e ↦ subst (λ z. Has t (get_or tables z [])) (sym e) (h t (subst (λ z. Has t z) changed_here (subst (λ z. Has t (get_or (set tables i new) z [])) e k)))
     | inr ne ↦ subst (λ z. Has t z) (changed_off j ne) k
   ]
 
@@ -166,12 +162,12 @@ module _ (v : KeyedView) (is : IsKeyedView v) where
     -- a tuple with another key stays
     pub stays : (j : ℕ) (t : Codes) → (j ≡ i → at_columns (get_or v.keys i []) t ≢ k) → Has t (get_or tables j []) → Has t (get_or less j [])
     stays j t other h = elim (cases_eq j i) [
-      | inl e ↦ subst (λ z. Has t (get_or less z [])) (sym e) (subst (λ z. Has t z) (sym (changed_at v tables good i lt _)) (without_keeps (get_or v.keys i []) k t (get_or tables i []) (subst (λ z. Has t (get_or tables z [])) e h) (other e)))
+      | inl e ↦ subst (λ z. Has t (get_or less z [])) (sym e) (subst (λ z. Has t z) (sym (changed_here v tables good i lt _)) (without_keeps (get_or v.keys i []) k t (get_or tables i []) (subst (λ z. Has t (get_or tables z [])) e h) (other e)))
       | inr ne ↦ subst (λ z. Has t z) (sym (changed_off v tables good i lt _ j ne)) h
     ]
 
     gone : (t : Codes) → Has t (get_or less i []) → at_columns (get_or v.keys i []) t ≢ k
-    gone t h = (without_only (get_or v.keys i []) k t (get_or tables i []) (subst (λ z. Has t z) (changed_at v tables good i lt _) h)).1
+    gone t h = (without_only (get_or v.keys i []) k t (get_or tables i []) (subst (λ z. Has t z) (changed_here v tables good i lt _) h)).1
 
     pub less_good : AreTables v less
     less_good = changed_tables v tables good i lt _ (keyed_filter (get_or v.keys i []) (λ t. not (has_key (get_or v.keys i []) k t)) (get_or tables i []) (good.keyed i lt))
@@ -256,10 +252,10 @@ module _ (v : KeyedView) (is : IsKeyedView v) where
     wider = into v tables good i lt _ (λ t h. puts_keep (get_or v.keys i []) t ts (get_or tables i []) (λ u g. new u g t h) h)
 
     pub come : (t : Codes) → Has t ts → Has t (get_or more i [])
-    come t h = subst (λ z. Has t z) (sym (changed_at v tables good i lt _)) (puts_have (get_or v.keys i []) t ts (get_or tables i []) rising h)
+    come t h = subst (λ z. Has t z) (sym (changed_here v tables good i lt _)) (puts_have (get_or v.keys i []) t ts (get_or tables i []) rising h)
 
     pub old_or_new : (t : Codes) → Has t (get_or more i []) → Has t ts ⊎ Has t (get_or tables i [])
-    old_or_new t h = puts_only (get_or v.keys i []) t ts (get_or tables i []) (subst (λ z. Has t z) (changed_at v tables good i lt _) h)
+    old_or_new t h = puts_only (get_or v.keys i []) t ts (get_or tables i []) (subst (λ z. Has t z) (changed_here v tables good i lt _) h)
 
     pub insertion_core : (number : ℕ) (rows : List Codes) (actions : List Action) (queries : List Query) → Core v tables rows actions queries → Core v more rows actions (queries ++ new_query v number i ts ∷ [])
     insertion_core number rows actions queries s = record {

@@ -4,22 +4,22 @@ use Rattle.std.proofs.lemmas.List.{map-append}
 use Rattle.std.proofs.lemmas.Bool.{cases_eq}
 use Rattle.whips_model.specs.Tuples.{Codes, at_columns, put_row, without_key}
 use Rattle.whips_model.specs.Views.{rows_of}
-use Rattle.whips_model.specs.Members.{Has}
+use Rattle.whips_lists.specs.Members.{Has, AreDistinct}
 use Rattle.whips_model.proofs.Keyed.{keyed_put}
-use Rattle.whips_model.proofs.Members.{has_none, has_same}
+use Rattle.whips_lists.proofs.Members.{has_none, has_same}
 use Rattle.whips_choices.specs.KeyedViews.{KeyedView, AreTables}
 use Rattle.whips_choices.specs.Partials.{Partial, seed}
 use Rattle.whips_choices.proofs.Rows.{put_only, put_keeps, same_row, same_rows}
 use Rattle.whips_choices.proofs.Values.{value_choice, value_row, value_in_order}
 use Rattle.whips_trans_laws.proofs.Alone.{meets_is}
 use Rattle.whips_steps.specs.Steps.{asked_sources}
-use Rattle.whips_steps.specs.Answers.{AreDistinct, unstruck}
+use Rattle.whips_steps.specs.Answers.{unstruck}
 use Rattle.whips_steps.proofs.Stepping.{all_filled}
 use Rattle.whips_actions.specs.Acts.{applied}
 use Rattle.whips_managers.specs.Managers.{Query, ManagerState, name_of, new_query, with_put, put_of, moved_on, with_step, with_answer}
 use Rattle.whips_managers.specs.Invariants.{Keeps}
 use Rattle.whips_manager_laws.specs.Laws.{IsNewAt, Meets, Misses, with_tuples, answer_to, UnconcernedInsertion, UnconcernedDeletion, UnconcernedChange, Deletion, Insertions, PutInsertions, EarlierAnswer, LastAnswer, ListMakesValue, NewManager, LaterNumber}
-use Rattle.whips_manager_laws.proofs.Invariant.{Core, core_of, stands_of, mid_cases, mid_has, mid_rest, distinct_rest, keyed_applied, into, changed_at, changed_off, changed_tables, unconcerned_core, deletion_stands, less_good, narrower, stays, insertion_core, insertion_stands, more_good, answer_core, closing_core}
+use Rattle.whips_manager_laws.proofs.Invariant.{Core, core_of, stands_of, mid_cases, mid_has, mid_rest, distinct_rest, keyed_applied, into, changed_here, changed_off, changed_tables, unconcerned_core, deletion_stands, less_good, narrower, stays, insertion_core, insertion_stands, more_good, answer_core, closing_core}
 
 -- ---- tuples that don't meet the view
 
@@ -47,11 +47,11 @@ module _ (v : KeyedView) (tables : List (List Codes)) (rows : List Codes) (m : M
     -- what came is t alone, which misses
     grown_back : (j : ℕ) (u : Codes) → j < length v.keys → Meets v j u → Has u (get_or grown j []) → Has u (get_or tables j [])
     grown_back j u below meets h = elim (cases_eq j i) [
-      | inl e ↦ elim (put_only (get_or v.keys i []) t u (get_or tables i []) (subst (λ z. Has u z) (changed_at v tables s.good i lt _) (subst (λ z. Has u (get_or grown z [])) e h))) [
+      | inl e ↦ elim (put_only (get_or v.keys i []) t u (get_or tables i []) (subst (λ z. Has u z) (changed_here v tables s.good i lt _) (subst (λ z. Has u (get_or grown z [])) e h))) [
         | inl same ↦ absurd (misses _ (subst (λ z. Meets v z t) e (subst (λ z. Meets v j z) same meets)) miss)
         | inr k ↦ subst (λ z. Has u (get_or tables z [])) (sym e) k
       ]
-      | inr ne ↦ subst (λ z. Has u z) (changed_off v tables s.good i lt _ j ne) h
+      | inr ne ↦ subst (λ z. Has u z) (changed_here, changed_off v tables s.good i lt _ j ne) h
     ]
 
     pub insertion_missed : Keeps v grown rows m

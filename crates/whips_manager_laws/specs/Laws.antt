@@ -2,7 +2,7 @@
 use Rattle.std.specs.Prelude.{◌≡◌, ◌≢◌, ℕ, ◌<◌, ◌≤◌, true, false, List, [], ◌∷◌, ◌++◌, length, map, slice_set}
 use Rattle.whips_model.specs.Tuples.{Codes, Columns, at_columns, without_key, IsKeyed}
 use Rattle.whips_model.specs.Views.{rows_of}
-use Rattle.whips_model.specs.Members.{Has}
+use Rattle.whips_lists.specs.Members.{Has}
 use Rattle.whips_choices.specs.KeyedViews.{KeyedView, IsKeyedView, AreTables, part_key, rows_at}
 use Rattle.whips_choices.specs.Edits.{put_rows}
 use Rattle.whips_choices.specs.Partials.{Partial, extended}

@@ -2,7 +2,7 @@
 ghost use Rattle.std.specs.Prelude.{◌≡◌, ◌≢◌, ◌<◌, ◌≤◌, ◌∷◌, [], length, IfOk};
 ghost use Rattle.std.specs.List.{AllByRecursion};
 ghost use Rattle.whips_choices.specs.Partials.{seed};
-ghost use Rattle.whips_steps.specs.Answers.{AreDistinct};
+ghost use Rattle.whips_lists.specs.Members.{AreDistinct};
 ghost use Rattle.whips_manager_runs.specs.Runs.{IsPair, ArePairs};
 
 use crate::views::pair;

@@ -2,10 +2,10 @@
 use Rattle.std.proofs.Common.{◌≡◌, ◌⊎◌, inl, inr, ℕ, ◌==◌, ◌&&◌, Bool, true, false, cond, Option, Some, None, is_some, List, [], ◌∷◌, map, slice_get, refl, sym, ap, ap₂, subst, ◌∙◌, eqb-true}
 use Rattle.std.specs.Option.{option_or}
 use Rattle.std.proofs.lemmas.Bool.{and_parts}
-use Rattle.whips_model.specs.Members.{Has}
+use Rattle.whips_lists.specs.Members.{Has}
 use Rattle.whips_model.specs.Tuples.{Codes, at_columns, has_key, row_at, without_key, IsKeyed}
 use Rattle.whips_model.specs.Relation.{Table}
-use Rattle.whips_model.proofs.Members.{has_first, has_later, has_mapped, has_before}
+use Rattle.whips_lists.proofs.Members.{has_first, has_later, has_mapped, has_before}
 use Rattle.whips_choices.specs.Edits.{put_rows}
 use Rattle.whips_choices.proofs.Rows.{key_is, row_found, row_missing, puts_have}
 use Rattle.whips_rel.specs.declared.update.Update.{Update}

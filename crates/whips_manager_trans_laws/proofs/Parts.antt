@@ -3,17 +3,16 @@ use Rattle.std.proofs.Common.{◌≡◌, ◌≢◌, ◌⊎◌, inl, inr, ℕ, �
 use Rattle.std.proofs.lemmas.Bool.{cases_eq}
 use Rattle.std.proofs.lemmas.List.{map-append, set-get_or}
 use Rattle.whips_model.specs.Tuples.{Codes, Columns, at_columns, IsKeyed}
-use Rattle.whips_model.specs.Members.{Has}
-use Rattle.whips_model.proofs.Members.{has_first, has_later, has_none, has_cases, has_either}
+use Rattle.whips_lists.specs.Members.{Has, AreDistinct}
+use Rattle.whips_lists.proofs.Members.{has_first, has_later, has_none, has_cases, has_either}
 use Rattle.whips_choices.specs.KeyedViews.{KeyedView, IsKeyedView, AreTables}
 use Rattle.whips_choices.proofs.Rows.{without_only, puts_only, puts_keep, puts_have}
 use Rattle.whips_trans_laws.proofs.ByKey.{puts_keyed}
 use Rattle.whips_steps.specs.Steps.{asked_sources}
-use Rattle.whips_steps.specs.Answers.{AreDistinct}
 use Rattle.whips_managers.specs.Managers.{Query, ManagerState, name_of, with_pending, with_deletion, with_deletions, with_query, with_put, new_query, put_or_asked, with_given, with_all_given}
 use Rattle.whips_managers.specs.Invariants.{Keeps}
 use Rattle.whips_manager_laws.specs.Laws.{IsNewAt, Meets, with_tuples, without_tuple, AreInsertions}
-use Rattle.whips_manager_laws.proofs.Invariant.{changed_at, changed_off, changed_tables, narrower, stays, less_good}
+use Rattle.whips_manager_laws.proofs.Invariant.{changed_here, changed_off, changed_tables, narrower, stays, less_good}
 use Rattle.whips_manager_laws.proofs.Lawful.{deletion, insertions, put_insertions}
 
 module _ (v : KeyedView) where
@@ -47,7 +46,7 @@ module _ (v : KeyedView) where
           | inl same ↦
               let first : i ≡ e.0 = ap (λ z. z.0) same in
               let second : key i u ≡ e.1 = ap (λ z. z.1) same in
-              (without_only (get_or v.keys e.0 []) e.1 u (get_or T e.0 []) (subst (λ z. Has u z) (changed_at v T good e.0 (h e (has_first e keys)) _) (subst (λ z. Has u (get_or (without_tuple v T e.0 e.1) z [])) first (all_only keys _ i u rest later g)))).1 (subst (λ z. key z u ≡ e.1) first second)
+              (without_only (get_or v.keys e.0 []) e.1 u (get_or T e.0 []) (subst (λ z. Has u z) (changed_here v T good e.0 (h e (has_first e keys)) _) (subst (λ z. Has u (get_or (without_tuple v T e.0 e.1) z [])) first (all_only keys _ i u rest later g)))).1 (subst (λ z. key z u ≡ e.1) first second)
           | inr m ↦ all_gone keys _ i u rest later g m
         ]
 
@@ -85,7 +84,7 @@ module _ (v : KeyedView) where
   fit_rest T given i parts good d fit j k =
       let f = fit j (has_later j i parts k) in
       let ne : j ≢ i = λ e. d.0 (subst (λ z. Has z parts) e k) in
-      (f.0, f.1, λ t h u g. f.2 t h u (subst (λ z. Has u z) (changed_off v T good i (fit i (has_first i parts)).0 _ j ne) g), f.3)
+      (f.0, f.1, λ t h u g. f.2 t h u (subst (λ z. Has u z) (changed_here, changed_off v T good i (fit i (has_first i parts)).0 _ j ne) g), f.3)
 
   module _ (columns : Columns) (given : ℕ → List Codes) where
     pub parts_stay : (parts : List ℕ) (T : List (List Codes)) (j : ℕ) (u : Codes) → AreTables v T → AreDistinct parts → Fit T given parts → Has u (get_or T j []) → Has u (get_or (with_parts T given parts) j [])
@@ -93,9 +92,9 @@ module _ (v : KeyedView) where
     parts_stay (i ∷ parts) T j u good d fit h =
         let f = fit i (has_first i parts) in
         parts_stay parts _ j u (more_tables T i (given i) good f.0) d.1 (fit_rest T given i parts good d fit) (elim (cases_eq j i) [
-          | inl e ↦ subst (λ z. Has u (get_or (with_tuples v T i (given i)) z [])) (sym e) (subst (λ z. Has u z) (sym (changed_at v T good i f.0 _))
+          | inl e ↦ subst (λ z. Has u (get_or (with_tuples v T i (given i)) z [])) (sym e) (subst (λ z. Has u z) (sym (changed_here v T good i f.0 _))
               (puts_keep (get_or v.keys i []) u (given i) (get_or T i []) (λ t k. f.2 t k u (subst (λ z. Has u (get_or T z [])) e h)) (subst (λ z. Has u (get_or T z [])) e h)))
-          | inr ne ↦ subst (λ z. Has u z) (sym (changed_off v T good i f.0 _ j ne)) h
+          | inr ne ↦ subst (λ z. Has u z) (sym (changed_here, changed_off v T good i f.0 _ j ne)) h
         ])
 
     pub parts_have : (parts : List ℕ) (T : List (List Codes)) (j : ℕ) (u : Codes) → AreTables v T → AreDistinct parts → Fit T given parts → Has j parts → Has u (given j) → Has u (get_or (with_parts T given parts) j [])
@@ -104,7 +103,7 @@ module _ (v : KeyedView) where
         let f = fit i (has_first i parts) in
         let next = fit_rest T given i parts good d fit in
         elim (has_cases j i parts k) [
-          | inl e ↦ parts_stay parts _ j u (more_tables T i (given i) good f.0) d.1 next (subst (λ z. Has u (get_or (with_tuples v T i (given i)) z [])) (sym e) (subst (λ z. Has u z) (sym (changed_at v T good i f.0 _))
+          | inl e ↦ parts_stay parts _ j u (more_tables T i (given i) good f.0) d.1 next (subst (λ z. Has u (get_or (with_tuples v T i (given i)) z [])) (sym e) (subst (λ z. Has u z) (sym (changed_here v T good i f.0 _))
               (puts_have (get_or v.keys i []) u (given i) (get_or T i []) f.1 (subst (λ z. Has u (given z)) e h))))
           | inr m ↦ parts_have parts _ j u (more_tables T i (given i) good f.0) d.1 next m h
         ]
@@ -116,11 +115,11 @@ module _ (v : KeyedView) where
         elim (parts_only parts _ j u (more_tables T i (given i) good f.0) d.1 (fit_rest T given i parts good d fit) h) [
           | inl k ↦ inl k
           | inr k ↦ elim (cases_eq j i) [
-            | inl e ↦ elim (puts_only (get_or v.keys i []) u (given i) (get_or T i []) (subst (λ z. Has u z) (changed_at v T good i f.0 _) (subst (λ z. Has u (get_or (with_tuples v T i (given i)) z [])) e k))) [
+            | inl e ↦ elim (puts_only (get_or v.keys i []) u (given i) (get_or T i []) (subst (λ z. Has u z) (changed_here v T good i f.0 _) (subst (λ z. Has u (get_or (with_tuples v T i (given i)) z [])) e k))) [
               | inl m ↦ inl (subst (λ z. Has u (given z)) (sym e) m)
               | inr m ↦ inr (subst (λ z. Has u (get_or T z [])) (sym e) m)
             ]
-            | inr ne ↦ inr (subst (λ z. Has u z) (changed_off v T good i f.0 _ j ne) k)
+            | inr ne ↦ inr (subst (λ z. Has u z) (changed_here, changed_off v T good i f.0 _ j ne) k)
           ]
         ]
 

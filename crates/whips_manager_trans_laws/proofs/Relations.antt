@@ -3,10 +3,10 @@ use Rattle.std.proofs.Common.{◌≡◌, inl, inr, ℕ, zero, suc, ◌+◌, ◌<
 use Rattle.std.specs.List.{range_with_len}
 use Rattle.std.proofs.lemmas.Bool.{cases_eq}
 use Rattle.std.proofs.lemmas.List.{length-map}
-use Rattle.whips_model.specs.Members.{Has}
+use Rattle.whips_lists.specs.Members.{Has}
 use Rattle.whips_model.specs.Tuples.{Codes, Columns, IsKeyed}
 use Rattle.whips_model.specs.Relation.{Table, rows_in, table_rows}
-use Rattle.whips_model.proofs.Members.{has_first, has_later, has_none, has_cases, has_same, has_mapped, has_before, has_joined, has_source}
+use Rattle.whips_lists.proofs.Members.{has_first, has_later, has_none, has_cases, has_same, has_mapped, has_before, has_joined, has_source}
 use Rattle.whips_choices.specs.KeyedViews.{KeyedView, AreTables, part_key}
 use Rattle.whips_states.specs.States.{Updates, applied, AreValid}
 use Rattle.whips_states.specs.Net.{inserted, deleted, relation_at, by_part}

@@ -2,14 +2,14 @@
 use Rattle.std.proofs.Common.{◌≡◌, inl, inr, ℕ, ◌≤◌, ◌==◌, Bool, true, false, cond, Some, List, [], ◌∷◌, ◌++◌, length, map, refl, sym, ap, subst, ◌∙◌, arith, eq-eqb, eqb-true}
 use Rattle.std.proofs.lemmas.Bool.{and_parts, and_from, ltb-true, ltb-false}
 use Rattle.std.proofs.lemmas.List.{append_assoc}
-use Rattle.whips_model.specs.Members.{Has}
+use Rattle.whips_lists.specs.Members.{Has, AreDistinct}
 use Rattle.whips_model.specs.Tuples.{Codes, Columns}
 use Rattle.whips_model.specs.Relation.{value_of}
-use Rattle.whips_model.proofs.Members.{has_none, has_cases, has_mapped}
+use Rattle.whips_lists.proofs.Members.{has_none, has_cases, has_mapped}
 use Rattle.whips_choices.specs.KeyedViews.{KeyedView}
 use Rattle.whips_states.specs.States.{applied}
 use Rattle.whips_steps.specs.Steps.{asked_sources}
-use Rattle.whips_steps.specs.Answers.{AreDistinct, tables_of}
+use Rattle.whips_steps.specs.Answers.{tables_of}
 use Rattle.whips_actions.specs.declared.action.Action.{Action}
 use Rattle.whips_actions.specs.Acts.{applied as made}
 use Rattle.whips_managers.specs.Managers.{Query, ManagerState, name_of, has_next, with_step, with_answer, with_reply_to, is_named, with_reply_behind, with_reply, with_transaction, list_where, kept_where}

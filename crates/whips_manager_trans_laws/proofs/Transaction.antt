@@ -1,18 +1,18 @@
 -- A whole transaction keeps the invariant of a manager.
 use Rattle.std.proofs.Common.{inl, inr, ℕ, ◌<◌, List, [], length, map, get_or, sym, ap, subst, arith}
 use Rattle.std.specs.List.{filter}
-use Rattle.whips_model.specs.Members.{Has}
+use Rattle.whips_lists.specs.Members.{Has}
 use Rattle.whips_model.specs.Tuples.{Codes, Columns, at_columns}
 use Rattle.whips_model.specs.Relation.{Table}
 use Rattle.whips_model.proofs.Keyed.{keyed_filter}
-use Rattle.whips_model.proofs.Members.{has_passing, has_passed, has_mapped, has_before}
+use Rattle.whips_lists.proofs.Members.{has_passing, has_passed, has_mapped, has_before}
 use Rattle.whips_choices.specs.KeyedViews.{KeyedView, AreTables, part_key}
 use Rattle.whips_states.specs.States.{Updates, applied, AreValid}
 use Rattle.whips_states.specs.Concerns.{meets_part}
 use Rattle.whips_states.specs.Net.{inserted, deleted, given_at, taken_at, taken, relation_at, by_part}
-use Rattle.whips_steps.specs.Steps.{numbers_below}
+use Rattle.whips_lists.specs.Lists.{places_from}
 use Rattle.whips_steps.specs.Answers.{tables_of}
-use Rattle.whips_steps.proofs.Stepping.{below_is, is_below, below_distinct}
+use Rattle.whips_lists.proofs.Places.{below_is, is_below, places_distinct}
 use Rattle.whips_managers.specs.Managers.{ManagerState, name_of, with_deletions, with_transaction}
 use Rattle.whips_managers.specs.Invariants.{Keeps}
 use Rattle.whips_manager_laws.specs.Laws.{Meets}
@@ -84,7 +84,7 @@ module _ (v : KeyedView) (columns : Columns) (db : List Table) (rows : List Code
   given_is : (i : ℕ) (u : Codes) → Has u (given_at v t i) → Has u (ins i) × Meets v i u
   given_is i u h = has_passed (meets_part v.base i) u (ins i) h
 
-  fit : Fit v kept (given_at v t) (numbers_below (length v.keys))
+  fit : Fit v kept (given_at v t) (places_from 0 (length v.keys))
   fit i k =
       let lt = below_is (length v.keys) i k in (
         lt,
@@ -93,30 +93,30 @@ module _ (v : KeyedView) (columns : Columns) (db : List Table) (rows : List Code
         λ u h. (given_is i u h).1,
       )
 
-  free : (i : ℕ) → Has i (numbers_below (length v.keys)) → Has (number, i) (map name_of (with_deletions (record m { last = number }) (taken v t)).queries) → ⊥
+  free : (i : ℕ) → Has i (places_from 0 (length v.keys)) → Has (number, i) (map name_of (with_deletions (record m { last = number }) (taken v t)).queries) → ⊥
   free i k h =
       let a = has_before name_of (number, i) m.queries (subst (λ l. Has (number, i) l) (names_stay v (taken v t) (record m { last = number })) h) in
       let le = s.invariant.numbered.known a.0 a.1 in
       let e = ap (λ z. z.0) a.2 in
       absurd (omega arith)
 
-  given_keep : Keeps v (with_parts v kept (given_at v t) (numbers_below (length v.keys))) rows (with_transaction v columns m number t)
-  given_keep = givens_keep v columns (given_at v t) (numbers_below (length v.keys)) kept rows _ number deleted_keep (below_distinct (length v.keys)) fit (let e = deletions_last v (taken v t) (record m { last = number }) in omega arith) free
+  given_keep : Keeps v (with_parts v kept (given_at v t) (places_from 0 (length v.keys))) rows (with_transaction v columns m number t)
+  given_keep = givens_keep v columns (given_at v t) (places_from 0 (length v.keys)) kept rows _ number deleted_keep (places_distinct 0 (length v.keys)) fit (let e = deletions_last v (taken v t) (record m { last = number }) in omega arith) free
 
   -- the inserted tuples that aren't given don't meet the view
   pub taken_whole : Keeps v after rows (with_transaction v columns m number t)
-  taken_whole = change_unseen v (with_parts v kept (given_at v t) (numbers_below (length v.keys))) after rows _ given_keep (tables_good v (applied db t) (relations_after v db t rel valid)) to back
+  taken_whole = change_unseen v (with_parts v kept (given_at v t) (places_from 0 (length v.keys))) after rows _ given_keep (tables_good v (applied db t) (relations_after v db t rel valid)) to back
     where
-      to : (i : ℕ) (u : Codes) → i < length v.keys → Meets v i u → Has u (get_or (with_parts v kept (given_at v t) (numbers_below (length v.keys))) i []) → Has u (get_or after i [])
-      to i u lt meets h = elim (parts_only v columns (given_at v t) (numbers_below (length v.keys)) kept i u kept_good (below_distinct (length v.keys)) fit h) [
+      to : (i : ℕ) (u : Codes) → i < length v.keys → Meets v i u → Has u (get_or (with_parts v kept (given_at v t) (places_from 0 (length v.keys))) i []) → Has u (get_or after i [])
+      to i u lt meets h = elim (parts_only v columns (given_at v t) (places_from 0 (length v.keys)) kept i u kept_good (places_distinct 0 (length v.keys)) fit h) [
         | inl g ↦ (net i lt).comes u (given_is i u g).0
         | inr g ↦ (net i lt).stays u (all_only v s.view named tables i u s.good named_in g) (λ k. all_gone v s.view named tables i u s.good named_in g (is_named i (key i u) lt k))
       ]
 
-      back : (i : ℕ) (u : Codes) → i < length v.keys → Meets v i u → Has u (get_or after i []) → Has u (get_or (with_parts v kept (given_at v t) (numbers_below (length v.keys))) i [])
+      back : (i : ℕ) (u : Codes) → i < length v.keys → Meets v i u → Has u (get_or after i []) → Has u (get_or (with_parts v kept (given_at v t) (places_from 0 (length v.keys))) i [])
       back i u lt meets h = elim ((net i lt).from u h) [
-        | inl g ↦ parts_have v columns (given_at v t) (numbers_below (length v.keys)) kept i u kept_good (below_distinct (length v.keys)) fit (is_below (length v.keys) i lt) (has_passing (meets_part v.base i) u (ins i) meets g)
-        | inr g ↦ parts_stay v columns (given_at v t) (numbers_below (length v.keys)) kept i u kept_good (below_distinct (length v.keys)) fit (all_stay v s.view named tables i u s.good named_in g.0 (λ k. g.1 (named_is i (key i u) k)))
+        | inl g ↦ parts_have v columns (given_at v t) (places_from 0 (length v.keys)) kept i u kept_good (places_distinct 0 (length v.keys)) fit (is_below (length v.keys) i lt) (has_passing (meets_part v.base i) u (ins i) meets g)
+        | inr g ↦ parts_stay v columns (given_at v t) (places_from 0 (length v.keys)) kept i u kept_good (places_distinct 0 (length v.keys)) fit (all_stay v s.view named tables i u s.good named_in g.0 (λ k. g.1 (named_is i (key i u) k)))
       ]
 
 pub transaction : TransactionKeeps

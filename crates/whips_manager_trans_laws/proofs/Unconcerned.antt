@@ -1,11 +1,11 @@
 -- A manager that takes no note of a transaction that doesn't concern its view.
 use Rattle.std.proofs.Common.{◌≡◌, inl, inr, ℕ, zero, suc, ◌+◌, ◌<◌, ◌==◌, ◌&&◌, Bool, true, false, cond, Some, List, [], ◌∷◌, length, get_or, refl, sym, subst, arith, eq-eqb}
 use Rattle.std.proofs.lemmas.Bool.{and_from, or_left, or_right}
-use Rattle.whips_model.specs.Members.{Has}
+use Rattle.whips_lists.specs.Members.{Has}
 use Rattle.whips_model.specs.Tuples.{Codes, at_columns}
 use Rattle.whips_model.specs.Relation.{Table}
 use Rattle.whips_model.specs.Views.{ViewData}
-use Rattle.whips_model.proofs.Members.{has_first, has_later}
+use Rattle.whips_lists.proofs.Members.{has_first, has_later, any_from_has}
 use Rattle.whips_choices.specs.KeyedViews.{KeyedView, part_key}
 use Rattle.whips_rel.specs.declared.update.Update.{Update}
 use Rattle.whips_rel.specs.declared.update.Update.TheVariants.{Insert, Delete}
@@ -15,7 +15,6 @@ use Rattle.whips_states.specs.Concerns.{meets_part, meets_from, concerns_update,
 use Rattle.whips_states.specs.Net.{inserted, deleted, relation_at, names, first_of_key}
 use Rattle.whips_trans_laws.proofs.Nets.{inserted_last, deleted_first}
 use Rattle.whips_steps.specs.Answers.{tables_of}
-use Rattle.whips_steps.proofs.Stepping.{any_from_has}
 use Rattle.whips_manager_laws.specs.Laws.{Meets}
 use Rattle.whips_manager_laws.proofs.Lawful.{change_unseen}
 use Rattle.whips_manager_trans_laws.specs.Laws.{AreRelationsOf, UnconcernedTransaction}

@@ -2,7 +2,7 @@
 use Rattle.std.specs.Prelude.{◌≡◌, ℕ, ◌<◌, false, List, length, Some, None, slice_get}
 use Rattle.whips_model.specs.Tuples.{Codes, Columns, IsKeyed}
 use Rattle.whips_model.specs.Relation.{Table, value_of}
-use Rattle.whips_model.specs.Members.{Has}
+use Rattle.whips_lists.specs.Members.{Has}
 use Rattle.whips_choices.specs.KeyedViews.{KeyedView, IsKeyedView, part_key}
 use Rattle.whips_choices.specs.Partials.{Partial}
 use Rattle.whips_states.specs.States.{Updates, applied, AreValid, AreSoundTables}

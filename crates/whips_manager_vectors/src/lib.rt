@@ -16,7 +16,8 @@ pub fn raced_insertions_share_one_list()
 
 /// What was answered before a deletion comes, and the deletion's own list takes it away.
 pub fn a_row_comes_and_goes()
-    ensures { lists_from two (new_manager 0) [] answered_before ≡ (1, row3 1 7 5 ∷ []) ∷ (2, []) ∷ [] }
+    ensures { lists_from two (new_manager 0) [] answered_before
+        ≡ (1, row3 1 7 5 ∷ []) ∷ (2, []) ∷ [] }
 {}
 
 /// What is answered after a deletion doesn't have what was deleted, and one list covers both.
@@ -27,7 +28,14 @@ pub fn a_deletion_waits_for_an_open_query()
 /// After the first of two steps the query is asked at the second, at the last source.
 pub fn a_query_goes_on_to_its_second_step()
     ensures { map (ask_of three) (state_after three (new_manager 0) second_step).queries
-        ≡ record { source = 2; transaction = 1; origin = 0; step = 2; partials = (Some (row2 1 5) ∷ Some (row2 7 5) ∷ None ∷ []) ∷ [] } ∷ [] }
+        ≡ record {
+          source = 2;
+          transaction = 1;
+          origin = 0;
+          step = 2;
+          partials =
+              (Some (row2 1 5) ∷ Some (row2 7 5) ∷ None ∷ []) ∷ [];
+        } ∷ [] }
 {}
 
 /// A choice with a tuple that was deleted while a later step was open is struck.

@@ -2,11 +2,11 @@
 use Rattle.std.specs.Prelude.{◌≡◌, ◌⊎◌, ℕ, ◌<◌, ◌≤◌, true, List, [], length, map, Some, None, is_some, slice_index_or}
 use Rattle.whips_model.specs.Tuples.{Codes, at_columns}
 use Rattle.whips_model.specs.Views.{Choice, meets, out_row, rows_of}
-use Rattle.whips_model.specs.Members.{Has}
+use Rattle.whips_lists.specs.Members.{Has, AreDistinct}
 use Rattle.whips_choices.specs.KeyedViews.{KeyedView, IsKeyedView, AreTables, IsChoiceOf}
 use Rattle.whips_choices.specs.Partials.{Partial, meets_on, IsPartOf}
 use Rattle.whips_steps.specs.Steps.{asked_sources, is_filled}
-use Rattle.whips_steps.specs.Answers.{AllDifferInKey, AreDistinct}
+use Rattle.whips_steps.specs.Answers.{AllDifferInKey}
 use Rattle.whips_actions.specs.Acts.{applied}
 use Rattle.whips_managers.specs.Managers.{Query, ManagerState, name_of}
 

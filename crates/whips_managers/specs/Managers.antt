@@ -5,7 +5,8 @@ use Rattle.whips_choices.specs.KeyedViews.{KeyedView}
 use Rattle.whips_choices.specs.Partials.{Partial, seed}
 use Rattle.whips_states.specs.States.{Updates}
 use Rattle.whips_states.specs.Net.{given_at, taken}
-use Rattle.whips_steps.specs.Steps.{numbers_below, asked_sources}
+use Rattle.whips_steps.specs.Steps.{asked_sources}
+use Rattle.whips_lists.specs.Lists.{places_from}
 use Rattle.whips_steps.specs.Answers.{projected, unstruck}
 use Rattle.whips_actions.specs.declared.action.Action.{Action}
 use Rattle.whips_actions.specs.declared.action.Action.TheVariants.{KeyDelete, Put}
@@ -84,7 +85,7 @@ with_all_given v columns m number given (part ∷ parts) = with_all_given v colu
 
 -- The manager after a transaction with this number: first the deletion of each key that the transaction takes from the view, then at each part, in view order, the insertion of the tuples that it gives the view there.
 abbrev pub with_transaction : KeyedView → Columns → ManagerState → ℕ → Updates → ManagerState
-with_transaction v columns m number t = with_all_given v columns (with_deletions (record m { last = number }) (taken v t)) number (given_at v t) (numbers_below (length v.keys))
+with_transaction v columns m number t = with_all_given v columns (with_deletions (record m { last = number }) (taken v t)) number (given_at v t) (places_from 0 (length v.keys))
 
 -- ---- a reply
 

@@ -9,7 +9,7 @@ use Rattle.std.proofs.Common.{◌≡◌, ℕ, zero, suc, ◌+◌, ◌-◌, ◌<�
 use Rattle.std.specs.Prelude.{fold}
 use Rattle.std.proofs.lemmas.List.{map-append}
 use Rattle.std.specs.Option.{option_map}
-use Rattle.whips_flow.specs.Lists.{changed_at}
+use Rattle.whips_lists.specs.Lists.{changed_at}
 use Rattle.whips_flow.specs.Painted.{Row, rows_with, rows_without, closure, lowest_ready}
 use Rattle.whips_flow.specs.State.{Merge}
 use Rattle.whips_flow.specs.Settling.{with_set_taken, with_ready_taken, painted_merge, settled_merge, rows_after_lists, later_lists}

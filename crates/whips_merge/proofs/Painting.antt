@@ -5,7 +5,7 @@ use Rattle.std.proofs.lemmas.List.Elements.{filter-append}
 use Rattle.std.specs.Prelude.{fold}
 use Rattle.std.specs.Option.{option_map}
 use Rattle.std.proofs.Math.Seq.{drop-cons}
-use Rattle.whips_flow.specs.Lists.{changed_at}
+use Rattle.whips_lists.specs.Lists.{changed_at}
 use Rattle.whips_flow.specs.Painted.{Row, painted_rows, rows_with, rows_without}
 use Rattle.whips_flow.specs.Settling.{due_lists, later_lists, rows_after_lists}
 use Rattle.whips_paint.specs.Table.{ViewTable, with_rows, ready_numbers, ready_rows, rows_left}

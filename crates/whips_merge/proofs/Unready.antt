@@ -3,12 +3,13 @@ use Rattle.std.proofs.Common.{◌≡◌, ℕ, zero, suc, ◌+◌, ◌<◌, ◌�
 use Rattle.std.specs.List.{All, list_any, find}
 use Rattle.std.specs.Option.{option_map}
 use Rattle.std.proofs.lemmas.Bool.{cases_eq, eq-eqb, or_left}
-use Rattle.whips_flow.specs.Lists.{places_from}
+use Rattle.whips_lists.specs.Lists.{places_from}
 use Rattle.whips_flow.specs.Painted.{Row, white, black, is_white, needs, has_number, closure, is_waiting, is_ready}
 use Rattle.whips_flow.specs.State.{Merge}
 use Rattle.whips_flow.specs.Settling.{painted_merge, rows_after_lists}
 use Rattle.whips_closure_laws.specs.Closure.{IsClosed}
-use Rattle.whips_closure_laws.proofs.Grown.{In, all_in, all_from, any_from, closure_least}
+use Rattle.whips_closure_laws.proofs.Grown.{closure_least}
+use Rattle.whips_lists.proofs.InList.{In, all_in, all_from, any_from}
 use Rattle.whips_settled_laws.proofs.Settles.{settled_is}
 use Rattle.whips_paint.specs.Table.{ready_numbers, new_entries}
 use Rattle.whips_paint.proofs.Entries.{list_any-map}

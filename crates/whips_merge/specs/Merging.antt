@@ -1,7 +1,7 @@
 -- A merge as its callers see it, and what its calls do.
 use Rattle.std.specs.Prelude.{◌≡◌, ℕ, Bool, true, false, not, List, [], ◌∷◌, ◌++◌, length, drop, map, filter, fold, replicate, slice_get}
 use Rattle.std.specs.List.{list_any, flat_map}
-use Rattle.whips_flow.specs.Lists.{changed_at, without_front}
+use Rattle.whips_lists.specs.Lists.{changed_at, without_front}
 use Rattle.whips_flow.specs.Painted.{Row}
 use Rattle.whips_flow.specs.State.{Merge, new_table}
 use Rattle.whips_flow.specs.Settling.{settled_merge}

@@ -1,6 +1,6 @@
 //! Row sets become transactions.
 ghost use Rattle.std.specs.Prelude.{◌≡◌, ◌∷◌, [], ◌++◌, cond, not, max, List, length, map, filter, fold, IfOk, OnOk, OnErr};
-ghost use Rattle.whips_flow.specs.Lists.{changed_at};
+ghost use Rattle.whips_lists.specs.Lists.{changed_at};
 ghost use Rattle.whips_flow.specs.Cuts.{cut_after};
 ghost use Rattle.whips_paint.specs.Table.{with_rows};
 ghost use Rattle.whips_merge.specs.Taking.{sets_taken, rows_after_sets};

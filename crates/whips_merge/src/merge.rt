@@ -1,7 +1,7 @@
 //! The merge.
 ghost use Rattle.std.specs.Prelude.{◌≡◌, ◌≢◌, ◌<◌, true, None, [], ◌∷◌, ◌++◌, replicate, nat_lt, length, IfOk, OnOk, OnErr, IsErr};
 ghost use Rattle.std.specs.List.{All, AllPairs};
-ghost use Rattle.whips_flow.specs.Lists.{front};
+ghost use Rattle.whips_lists.specs.Lists.{front};
 ghost use Rattle.whips_flow.specs.State.{new_table as empty_table};
 ghost use Rattle.whips_paint.specs.Table.{ready_numbers};
 ghost use Rattle.whips_merge.specs.Merging.{new_merge, announced_row, after_rel, after_act, after_next, IsStoppedAfter};

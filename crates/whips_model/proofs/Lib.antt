@@ -1,3 +1,2 @@
 pub mod Keyed
 pub mod Rising
-pub mod Members

@@ -1,4 +1,3 @@
-pub mod Members
 pub mod Tuples
 pub mod Search
 pub mod Views

@@ -5,7 +5,7 @@ use Rattle.std.specs.List.{AllByRecursion, remove}
 use Rattle.std.proofs.lemmas.List.{drop-append-le, length-append, map-append}
 use Rattle.std.specs.declared.cmp.Ordering.TheVariants.{Less}
 use Rattle.whips_model.specs.Tuples.{Codes, codes_cmp}
-use Rattle.whips_states.specs.States.{changed_at}
+use Rattle.whips_lists.specs.Lists.{changed_at}
 use Rattle.whips_choices.specs.Partials.{Partial}
 use Rattle.whips_managers.specs.Managers.{Query, with_pending, moved_on}
 use Rattle.whips_open_queries.specs.Names.{name_codes, IsNamedBelow, AreInOrder}

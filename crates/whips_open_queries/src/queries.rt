@@ -3,7 +3,7 @@ ghost use Rattle.std.specs.Prelude.{◌≡◌, ◌<◌, ◌+◌, ◌^◌, ◌==�
 ghost use Rattle.std.specs.List.{AllByRecursion, list_any};
 ghost use Rattle.std.specs.Option.{option_map};
 ghost use Rattle.whips_model.specs.Tuples.{codes_cmp};
-ghost use Rattle.whips_states.specs.States.{changed_at};
+ghost use Rattle.whips_lists.specs.Lists.{changed_at};
 ghost use Rattle.whips_managers.specs.Managers.{with_pending, moved_on};
 ghost use Rattle.whips_open_queries.specs.Names.{name_codes, IsNamedBelow, AreInOrder, place_named};
 ghost use Rattle.whips_open_queries.specs.Deletions.{is_entry, pending_at};

@@ -3,8 +3,8 @@ use Rattle.std.specs.Prelude.{ℕ, suc, ◌==◌, Bool, false, List, [], ◌∷�
 use Rattle.whips_states.specs.States.{Updates}
 use Rattle.whips_states.specs.Concerns.{concerns}
 use Rattle.whips_view.specs.ViewDefs.{View}
-use Rattle.whips_flow.specs.Lists.{places_from}
-use Rattle.whips_flow.specs.State.{NumberedTransaction}
+use Rattle.whips_lists.specs.Lists.{places_from}
+use Rattle.whips_flow.specs.State.{NumberedTransaction, count_of_source}
 use Rattle.whips_order.specs.declared.message.Message.{Message}
 use Rattle.whips_order.specs.declared.message.Message.TheVariants.{Update, Reply}
 use Rattle.whips_order.specs.declared.message.Forward.{Forward}
@@ -12,13 +12,9 @@ use Rattle.whips_order.specs.declared.message.Forward.TheVariants.{Numbered, Rep
 
 -- ---- the numbering: the transactions that the integrator has taken, each with its number, its source and its place there, in the order of their numbers
 
--- How many of them are of the source.
-abbrev pub count_of : List NumberedTransaction → ℕ → ℕ
-count_of numbering y = length (filter (λ n. n.source == y) numbering)
-
 -- The source's next transaction in the numbering: its number is one more than there are transactions, and its place one more than there are of the source. The painting algorithm 1997, with places of this project's own.
 abbrev pub next_of : List NumberedTransaction → ℕ → NumberedTransaction
-next_of numbering y = record { number = suc (length numbering); source = y; place = suc (count_of numbering y) }
+next_of numbering y = record { number = suc (length numbering); source = y; place = suc (count_of_source numbering y) }
 
 -- The numbering after a message of the source: a reply isn't numbered.
 abbrev pub numbering_after : ℕ → Message → List NumberedTransaction → List NumberedTransaction
@@ -32,7 +28,7 @@ pub record Counts : Type 0 where
 
 -- The counts of a numbering of this many sources' transactions.
 abbrev pub counts_of : ℕ → List NumberedTransaction → Counts
-counts_of sources numbering = record { total = length numbering; places = map (count_of numbering) (places_from 0 sources) }
+counts_of sources numbering = record { total = length numbering; places = map (count_of_source numbering) (places_from 0 sources) }
 
 -- ---- what is handed on
 
@@ -46,5 +42,5 @@ concerned_views views t = filter (λ x. is_concerned t (slice_get views x)) (pla
 
 -- What the integrator hands on of a message: a transaction with its number, its place and the views that it concerns, and a reply as it is.
 abbrev pub forward_of : List View → List NumberedTransaction → ℕ → Message → Forward
-forward_of views numbering y (Update t) = Numbered (suc (length numbering)) (suc (count_of numbering y)) t (concerned_views views t)
+forward_of views numbering y (Update t) = Numbered (suc (length numbering)) (suc (count_of_source numbering y)) t (concerned_views views t)
 forward_of views numbering y (Reply r) = ReplyOn r

@@ -8,13 +8,13 @@
 use Rattle.std.proofs.Common.{◌≡◌, ℕ, ◌+◌, ◌<◌, ◌≤◌, Bool, true, false, ◌&&◌, List, [], ◌∷◌, ◌++◌, length, cond, eqb, ltb, leb, Option, Some, None, refl, sym, ap, subst, ◌∙◌, arith, ◌⊎◌, inl, inr, ⊎_elim}
 use Rattle.std.specs.Prelude.{slice_get, not, filter}
 use Rattle.std.specs.List.{list_any, list_all}
-use Rattle.std.proofs.lemmas.Bool.{eqb-true, eq-eqb, ltb-true, lt-ltb, leb-true, le-leb, lt-leb, le-ltb, or_left, or_right, or_cases, and_from, and_parts, false≢true}
-use Rattle.std.proofs.lemmas.Bool.{cases_eq, cases_Bool}
+use Rattle.std.proofs.lemmas.Bool.{eqb-true, eq-eqb, ltb-true, lt-ltb, leb-true, le-leb, lt-leb, le-ltb, or_left, or_right, or_cases, and_from, and_parts, false≢true, cases_eq, cases_Bool}
 use Rattle.std.proofs.lemmas.List.Folds.{list_any-append}
 use Rattle.std.proofs.lemmas.Option.{slice_get_within}
 use Rattle.whips_flow.specs.Painted.{Colour, black, white, red, Row, entry_needs, is_concerned}
 use Rattle.whips_closure_laws.specs.Closure.{NeedsAt}
-use Rattle.whips_closure_laws.proofs.Grown.{In, any_from, any_to, draws_entries}
+use Rattle.whips_closure_laws.proofs.Grown.{draws_entries}
+use Rattle.whips_lists.proofs.InList.{In, any_from, any_to}
 use Rattle.whips_paint.specs.declared.bounds.Side.{Side}
 use Rattle.whips_paint.specs.declared.bounds.Side.TheVariants.{Needed, Needing}
 use Rattle.whips_paint.specs.declared.bounds.Bound.{Bound}

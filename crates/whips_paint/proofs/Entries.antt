@@ -6,7 +6,7 @@ use Rattle.std.proofs.Math.ListN.{set, get_or, take, replicate}
 use Rattle.std.proofs.lemmas.List.{map-set, take_more}
 use Rattle.std.proofs.lemmas.Bool.{eq-eqb, eqb-true, or_left, or_right, false≢true}
 use Rattle.std.proofs.lemmas.List.Folds.{list_any-append}
-use Rattle.whips_flow.specs.Lists.{changed_at, places_from}
+use Rattle.whips_lists.specs.Lists.{changed_at, places_from}
 use Rattle.whips_flow.specs.Painted.{Colour, black, white, red, is_white, reddened_entry, has_number}
 use Rattle.whips_paint.specs.Table.{new_entries}
 use Rattle.whips_paint.specs.Entries.{entry_colour}

@@ -23,7 +23,8 @@ use Rattle.std.proofs.Math.Seq.{take-append_seam}
 use Rattle.whips_paint.proofs.Spreading.{set_cases}
 use Rattle.whips_flow.specs.Painted.{Row, needs, has_number, closure, is_in_or_needed, with_needed, with_needed_again, is_waiting, is_ready}
 use Rattle.whips_closure_laws.specs.Closure.{IsClosed, IsLeastClosed}
-use Rattle.whips_closure_laws.proofs.Grown.{In, all_in, all_from, closure_least}
+use Rattle.whips_closure_laws.proofs.Grown.{closure_least}
+use Rattle.whips_lists.proofs.InList.{In, all_in, all_from}
 use Rattle.whips_paint.specs.declared.marks.Mark.{Mark}
 use Rattle.whips_paint.specs.declared.marks.Mark.TheVariants.{Clear, Found}
 use Rattle.whips_paint.specs.declared.bounds.Side.{Side}

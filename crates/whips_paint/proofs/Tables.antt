@@ -7,7 +7,7 @@ use Rattle.std.proofs.lemmas.List.Quantifiers.{all_pairs_push}
 use Rattle.std.proofs.lemmas.List.Kept.{AllPairs-filter}
 use Rattle.std.proofs.lemmas.List.Elements.{filter-append, All-push, All-filter, All-map}
 use Rattle.std.proofs.Math.ListN.{get_or}
-use Rattle.whips_flow.specs.Lists.{places_from, changed_at}
+use Rattle.whips_lists.specs.Lists.{places_from, changed_at}
 use Rattle.whips_flow.specs.Painted.{Row, with_row, painted_row, painted_rows, reddened_entry, closure, has_number, rows_with, rows_without, is_ready}
 use Rattle.whips_paint.specs.Table.{ViewTable, with_rows, IsInOrder, placed_row, new_entries, ready_numbers, ready_rows, rows_left}
 use Rattle.whips_paint.proofs.Entries.{colour_at}

@@ -2,7 +2,7 @@
 use Rattle.std.specs.Prelude.{◌≡◌, ℕ, ◌<◌, ◌≤◌, ◌==◌, Bool, false, List, length, map, Option, Some, None, if◌then◌else◌}
 use Rattle.std.specs.List.{All, AllPairs}
 use Rattle.std.specs.Option.{option_map}
-use Rattle.whips_flow.specs.Lists.{places_from}
+use Rattle.whips_lists.specs.Lists.{places_from}
 use Rattle.whips_flow.specs.Painted.{Colour, black, white, red, Row, PaintedTable, has_number, closure, rows_with, rows_without, lowest_ready}
 
 -- a painted table over a number of views

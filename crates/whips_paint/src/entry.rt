@@ -1,7 +1,7 @@
 //! The entries of a row, one for each view.
 ghost use Rattle.std.specs.Prelude.{◌≡◌, ◌<◌, Some, IfOk, map, slice_get};
 ghost use Rattle.std.specs.List.{All, list_any};
-ghost use Rattle.whips_flow.specs.Lists.{changed_at};
+ghost use Rattle.whips_lists.specs.Lists.{changed_at};
 ghost use Rattle.whips_flow.specs.Painted.{is_concerned, is_white, entry_needs, reddened_entry};
 ghost use Rattle.whips_paint.specs.Table.{new_entries, is_red};
 ghost use Rattle.whips_paint.specs.Entries.{entry_colour};

@@ -20,8 +20,7 @@ use Rattle.whips_setup.specs.declared.error.SetupErr.{SetupErr}
 use Rattle.whips_setup.specs.Refusals.{slots_refusal, IsSetup}
 use Rattle.whips_store.specs.Stores.{ViewState, ChangeLists, no_view}
 use Rattle.whips_store.specs.Calls.{AreNet, AreNetChanges, slots_needed, first_full, views_with}
-use Rattle.whips_store.specs.First.{first_steps, first_records, first_view}
-use Rattle.whips_plain.specs.First.{view_at_first, views_at_first}
+use Rattle.whips_store.specs.First.{first_steps, first_records, first_view, view_at_first, views_at_first}
 use Rattle.whips_plain.specs.Plain.{HasFewSlots, count}
 
 pub begun_left : (vs : List ViewState) (cs : ChangeLists) → AreNet vs cs → sum_by (λ (v : ViewState). length v.left) (views_with vs cs) ≡ count cs

@@ -18,7 +18,7 @@ use Rattle.whips_store.specs.Calls.{AreNet, shortage, first_full, views_with, sl
 use Rattle.whips_store.specs.Sound.{IsSoundView, IsSoundStore}
 use Rattle.whips_store_laws.specs.Laws.{AreTables}
 use Rattle.whips_store_laws.proofs.Whole.{begin_keeps, change_keeps, publish_keeps}
-use Rattle.whips_plain.specs.First.{views_at_first}
+use Rattle.whips_store.specs.First.{views_at_first}
 use Rattle.whips_plain.specs.Plain.{HasWidths, HasFewSlots, IsPlain, count}
 use Rattle.whips_plain.proofs.Steps.{one_fewer, published_left}
 use Rattle.whips_plain.proofs.Begins.{begun_left, begun_many, first_many, none_left}

@@ -1,3 +1,4 @@
-pub mod Steps
 pub mod Begins
 pub mod Kept
+pub mod Numbers
+pub mod Steps

@@ -1,7 +1,7 @@
 //! The plain store.
 ghost use Rattle.std.specs.Prelude.{◌≡◌, IfOk};
 ghost use Rattle.whips_store.specs.Sound.{IsSoundStore};
-ghost use Rattle.whips_plain.specs.First.{store_at_first};
+ghost use Rattle.whips_store.specs.First.{store_at_first};
 
 use crate::first::first_views;
 use crate::views::{change_first, check_views, count_changes, publish_views, put_changes};
@@ -31,9 +31,20 @@ impl Model for Plain {
 
     ghost Value = { StoreState };
 
-    ghost view = { λ p. record { versions = p.versions; phase = p.phase; views = p.views.items; past = None } };
+    ghost view = { λ p. record {
+      versions = p.versions;
+      phase = p.phase;
+      views = p.views.items;
+      past = None;
+    } };
 
-    ghost invariant = { λ p. IsPlain p.left (record { versions = p.versions; phase = p.phase; views = p.views.items; past = None }) };
+    ghost invariant = { λ p. IsPlain p.left (record {
+      versions = p.versions;
+      phase = p.phase;
+      views
+          = p.views.items;
+      past = None;
+    }) };
 }
 
 impl Plain {

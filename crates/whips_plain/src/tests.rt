@@ -2,7 +2,7 @@
 ghost use Rattle.std.specs.Prelude.{◌≡◌, [], ◌∷◌, IfOk, OnOk};
 ghost use Rattle.whips_model.specs.Tuples.{put_row};
 ghost use Rattle.whips_rel.specs.declared.update.Change.TheVariants.{Add, Remove};
-ghost use Rattle.whips_plain.specs.First.{store_at_first};
+ghost use Rattle.whips_store.specs.First.{store_at_first};
 ghost use Rattle.whips_plain.specs.Worked.{pair_columns, pairs, pair_view, pair_setup, pair_changes};
 
 use crate::Plain;

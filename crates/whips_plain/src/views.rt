@@ -29,8 +29,12 @@ fn check_view(
     requires columns { after.now.columns ≡ view.old.columns }
     requires net { AreNetChanges view.old after.now.rows changes.now }
     ensures same { view.new ≡ view.old }
-    ensures ok { OnOk result (slots_needed n (phase / 2) view.old after.now.rows ≤ length view.old.records) }
-    ensures full { IfErr result (λ e. e ≢ StoreErr.NoMemory → (length view.old.records < slots_needed n (phase / 2) view.old after.now.rows) × (e ≡ StoreErr.Full x (slots_needed n (phase / 2) view.old after.now.rows) (length view.old.records))) }
+    ensures ok { OnOk result (slots_needed n (phase / 2) view.old after.now.rows
+        ≤ length view.old.records) }
+    ensures full { IfErr result (λ e. e ≢ StoreErr.NoMemory
+        → (length view.old.records < slots_needed n (phase / 2) view.old after.now.rows)
+        × (e ≡ StoreErr.Full x (slots_needed n (phase / 2) view.old after.now.rows)
+        (length view.old.records))) }
 {
     match view.prepare(phase, n, after, changes)? {
         None => Ok(()),
@@ -57,8 +61,11 @@ pub(crate) fn check_views(
     requires sound { AllByRecursion (IsSoundView n phase) views.old.items }
     requires net { AreNet views.old.items (map (λ view. (view.0, view.1.items)) changes.now) }
     ensures same { views.new.items ≡ views.old.items }
-    ensures ok { OnOk result (first_full n (phase / 2) 0 views.old.items (map (λ view. (view.0, view.1.items)) changes.now) ≡ None) }
-    ensures full { IfErr result (λ e. e ≢ StoreErr.NoMemory → first_full n (phase / 2) 0 views.old.items (map (λ view. (view.0, view.1.items)) changes.now) ≡ Some e) }
+    ensures ok { OnOk result (first_full n (phase / 2) 0 views.old.items
+        (map (λ view. (view.0, view.1.items)) changes.now) ≡ None) }
+    ensures full { IfErr result (λ e. e ≢ StoreErr.NoMemory
+        → first_full n (phase / 2) 0 views.old.items
+        (map (λ view. (view.0, view.1.items)) changes.now) ≡ Some e) }
 {
     for x in 0..changes.len() {
         let change = &changes[x];
@@ -70,7 +77,8 @@ pub(crate) fn check_views(
 /// How many changes there are, where that is a `u64`. The rows afterwards are tables.
 pub(crate) fn count_changes(changes: &[(Rows, Vec<Change>)]) -> Option<u64>
     ensures tables { AreTables (map (λ view. (view.0, view.1.items)) changes.now) }
-    ensures count { IfSome result (λ m. m ≡ count (map (λ view. (view.0, view.1.items)) changes.now)) }
+    ensures count { IfSome result (λ m. m ≡ count
+        (map (λ view. (view.0, view.1.items)) changes.now)) }
 {
     match changes {
         [] => Some(0),
@@ -114,7 +122,8 @@ pub(crate) fn change_first(views: &mut Vec<PlainView>, phase: u64, n: u32)
 
 /// Makes each view's new rows the current ones.
 pub(crate) fn publish_views(views: &mut Vec<PlainView>)
-    ensures { views.new.items ≡ map (λ (v : ViewState). record v { current = v.next }) views.old.items }
+    ensures { views.new.items ≡ map (λ (v : ViewState).
+        record v { current = v.next }) views.old.items }
 {
     for view in views.iter_mut() {
         view.publish();

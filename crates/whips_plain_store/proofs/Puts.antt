@@ -4,7 +4,7 @@ use Rattle.std.specs.Prelude.{reverse}
 use Rattle.std.specs.List.{AllByRecursion, filter_map}
 use Rattle.std.proofs.lemmas.List.{reverse-append, take_more, take_all, length-map}
 use Rattle.std.proofs.lemmas.List.Elements.{filter_map-append}
-use Rattle.whips_flow.specs.Lists.{places_from}
+use Rattle.whips_lists.specs.Lists.{places_from}
 use Rattle.whips_model.specs.Tuples.{Codes, Columns, at_columns, has_key, row_at, put_row, without_key, IsKeyed}
 use Rattle.whips_model.specs.Relation.{Table}
 use Rattle.whips_model.proofs.Keyed.{keyed_put, keyed_filter, all_at}

@@ -11,12 +11,12 @@ use Rattle.std.proofs.lemmas.Bool.{cases_lt}
 use Rattle.std.proofs.lemmas.List.{length-map}
 use Rattle.std.proofs.lemmas.List.Folds.{list_any_at}
 use Rattle.std.proofs.lemmas.List.Quantifiers.{position-Some}
-use Rattle.whips_flow.specs.Lists.{places_from}
-use Rattle.whips_model.specs.Members.{Has}
+use Rattle.whips_lists.specs.Lists.{places_from}
+use Rattle.whips_lists.specs.Members.{Has}
 use Rattle.whips_model.specs.Tuples.{Codes, Columns, codes_cmp, at_columns, has_key, row_at, IsKeyed}
 use Rattle.whips_model.specs.Relation.{IsTable}
 use Rattle.whips_model.proofs.Keyed.{all_at}
-use Rattle.whips_model.proofs.Members.{has_at, has_first, has_later, has_none, has_cases, has_either, has_left, has_right, has_mapped, has_before, has_passing, all_has, all_from_has}
+use Rattle.whips_lists.proofs.Members.{has_at, has_first, has_later, has_none, has_cases, has_either, has_left, has_right, has_mapped, has_before, has_passing, all_has, all_from_has}
 use Rattle.whips_choices.proofs.Rows.{codes_tied, row_found}
 use Rattle.whips_trans_laws.proofs.ByKey.{row_of_key}
 use Rattle.whips_rel.specs.declared.update.Change.{Change}

@@ -68,7 +68,8 @@ pub(crate) fn slot_of(
     requires kept { AreKept n records.now }
     requires version { c < 2 ^ 62 }
     requires index { ForSome index.now (IsIndex schema.now.key (all_steps records.now)) }
-    ensures { result ≡ slot_for n c schema.now.key (change_key schema.now.key change.now) (all_steps records.now) }
+    ensures { result ≡ slot_for n c schema.now.key (change_key schema.now.key change.now)
+        (all_steps records.now) }
 {
     if let Some(index) = index {
         if let Some(key) = key {
@@ -88,7 +89,8 @@ pub(crate) fn index_after(
     n: u32,
     c: u64,
 ) -> Option<SlotIndex>
-    ensures { IfSome result (λ new. (old : IndexData) × (index ≡ Some old) × IsTaken slot old new × (old.versions ≡ n) × (old.committed ≡ c)) }
+    ensures { IfSome result (λ new. (old : IndexData) × (index ≡ Some old) × IsTaken slot old new
+        × (old.versions ≡ n) × (old.committed ≡ c)) }
 {
     let mut index = index?;
     if index.versions() != n || index.committed() != c {

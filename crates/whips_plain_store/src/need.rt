@@ -2,7 +2,7 @@
 ghost use Rattle.std.specs.Prelude.{◌≡◌, ◌≤◌, ◌+◌, ◌^◌, [], ◌∷◌, length, map, reverse, OnOk};
 ghost use Rattle.std.specs.List.{AllByRecursion};
 ghost use Rattle.whips_model.specs.Tuples.{put_row};
-ghost use Rattle.whips_flow.specs.Lists.{places_from};
+ghost use Rattle.whips_lists.specs.Lists.{places_from};
 ghost use Rattle.whips_vnl.specs.Records.{steps_or_none};
 ghost use Rattle.whips_store.specs.Versions.{rows_at};
 ghost use Rattle.whips_store.specs.Sound.{HaveWidth};
@@ -16,7 +16,8 @@ use whips_vnl::Vrec;
 /// Puts the row into the place of the one with its key.
 fn put(rows: &mut Relation, row: &Tuple) -> Result<(), NoMemory>
     requires { length row.now ≡ length rows.old.columns.kinds }
-    ensures { OnOk result (rows.new ≡ record rows.old { rows = put_row rows.old.columns.key row.now rows.old.rows }) }
+    ensures { OnOk result (rows.new
+        ≡ record rows.old { rows = put_row rows.old.columns.key row.now rows.old.rows }) }
 {
     let key = rows.schema().key_of(row)?;
     let copy = row.copy()?;
@@ -30,7 +31,8 @@ fn put(rows: &mut Relation, row: &Tuple) -> Result<(), NoMemory>
 /// Puts these rows, one after another.
 pub(crate) fn put_rows(rows: &mut Relation, news: &[Tuple]) -> Result<(), NoMemory>
     requires { AllByRecursion (λ t. length t ≡ length rows.old.columns.kinds) news.now }
-    ensures { OnOk result (rows.new ≡ record rows.old { rows = put_all rows.old.columns.key rows.old.rows news.now }) }
+    ensures { OnOk result (rows.new
+        ≡ record rows.old { rows = put_all rows.old.columns.key rows.old.rows news.now }) }
 {
     for row in news {
         put(rows, row)?;
@@ -41,7 +43,11 @@ pub(crate) fn put_rows(rows: &mut Relation, news: &[Tuple]) -> Result<(), NoMemo
 /// Puts the row that the slot shows at version `v`, where it shows one.
 fn put_slot(rows: &mut Relation, slot: &Option<Vrec>, v: u64, n: u32) -> Result<(), NoMemory>
     requires { HaveWidth (length rows.old.columns.kinds) (steps_or_none slot.now) }
-    ensures { OnOk result (rows.new ≡ record rows.old { rows = put_all rows.old.columns.key rows.old.rows (rows_at n v (steps_or_none slot.now ∷ [])) }) }
+    ensures { OnOk result (rows.new
+        ≡ record rows.old {
+          rows = put_all rows.old.columns.key rows.old.rows
+              (rows_at n v (steps_or_none slot.now ∷ []));
+        }) }
 {
     match row_shown(slot, v, n) {
         Some(row) => put(rows, row),
@@ -52,7 +58,11 @@ fn put_slot(rows: &mut Relation, slot: &Option<Vrec>, v: u64, n: u32) -> Result<
 /// Puts the rows that the slots show at version `v`.
 fn put_shown(rows: &mut Relation, records: &[Option<Vrec>], v: u64, n: u32) -> Result<(), NoMemory>
     requires { AllByRecursion (HaveWidth (length rows.old.columns.kinds)) (all_steps records.now) }
-    ensures { OnOk result (rows.new ≡ record rows.old { rows = put_all rows.old.columns.key rows.old.rows (rows_at n v (all_steps records.now)) }) }
+    ensures { OnOk result (rows.new
+        ≡ record rows.old {
+          rows = put_all rows.old.columns.key rows.old.rows
+              (rows_at n v (all_steps records.now));
+        }) }
 {
     for i in 0..records.len() {
         put_slot(rows, &records[i], v, n)?;
@@ -68,9 +78,14 @@ pub(crate) fn put_versions(
     first: u64,
     count: u64,
 ) -> Result<(), NoMemory>
-    requires widths { AllByRecursion (HaveWidth (length rows.old.columns.kinds)) (all_steps records.now) }
+    requires widths { AllByRecursion (HaveWidth (length rows.old.columns.kinds))
+        (all_steps records.now) }
     requires versions { first + count ≤ 2 ^ 63 }
-    ensures { OnOk result (rows.new ≡ record rows.old { rows = put_values rows.old.columns.key rows.old.rows (reverse (map (λ v. rows_at n v (all_steps records.now)) (places_from first count))) }) }
+    ensures { OnOk result (rows.new
+        ≡ record rows.old {
+          rows = put_values rows.old.columns.key rows.old.rows
+              (reverse (map (λ v. rows_at n v (all_steps records.now)) (places_from first count)));
+        }) }
 {
     if count == 0 {
         return Ok(());

@@ -5,7 +5,7 @@ ghost use Rattle.whips_vnl.specs.Records.{steps_after, visible, shown_of, IsBelo
 ghost use Rattle.whips_changes.specs.Changes.{need};
 ghost use Rattle.whips_store.specs.Versions.{versions_in_use, rows_at};
 ghost use Rattle.whips_store.specs.Stores.{with_seen};
-ghost use Rattle.whips_store.specs.Calls.{AreNetChanges, slots_needed};
+ghost use Rattle.whips_store.specs.Calls.{AreNetChanges, AreRowsWithin, slots_needed};
 ghost use Rattle.whips_store.specs.First.{first_steps, first_records, first_view};
 ghost use Rattle.whips_store.specs.Sound.{HaveWidth, IsSoundView};
 ghost use Rattle.whips_slot_index.specs.Slots.{all_steps};
@@ -42,9 +42,17 @@ impl Model for PlainView {
 
     ghost Value = { ViewState };
 
-    ghost view = { λ f. record { columns = f.current.columns; records = all_steps f.records.items; current = f.current.rows; next = (unwrap_or f.next f.current).rows; left = reverse f.left.items } };
+    ghost view = { λ f. record {
+      columns = f.current.columns;
+      records = all_steps f.records.items;
+      current = f.current.rows;
+      next = (unwrap_or f.next f.current).rows;
+      left = reverse
+          f.left.items;
+    } };
 
-    ghost invariant = { λ f. ((unwrap_or f.next f.current).columns ≡ f.current.columns) × ForSome f.index (IsIndex f.current.columns.key (all_steps f.records.items)) };
+    ghost invariant = { λ f. ((unwrap_or f.next f.current).columns ≡ f.current.columns)
+        × ForSome f.index (IsIndex f.current.columns.key (all_steps f.records.items)) };
 }
 
 /// Makes the change in the slot.
@@ -55,8 +63,10 @@ fn change_slot(records: &mut Vec<Option<Vrec>>, slot: usize, change: Change, n: 
     requires kept { length (slice_index_or (all_steps records.old.items) slot []) ≤ n }
     requires version { c < 2 ^ 62 }
     requires newer { IsBelow (c + 1) (slice_index_or (all_steps records.old.items) slot []) }
-    requires fitting { is_fitting change (visible n c (slice_index_or (all_steps records.old.items) slot [])) ≡ true }
-    ensures { all_steps records.new.items ≡ set (all_steps records.old.items) slot (steps_after n (c + 1) change (slice_index_or (all_steps records.old.items) slot [])) }
+    requires fitting { is_fitting change (visible n c
+        (slice_index_or (all_steps records.old.items) slot [])) ≡ true }
+    ensures { all_steps records.new.items ≡ set (all_steps records.old.items) slot
+        (steps_after n (c + 1) change (slice_index_or (all_steps records.old.items) slot [])) }
 {
     let old = records[slot].take();
     let new = changed(old, change, c + 1, n);
@@ -76,11 +86,13 @@ fn read_slot(
     requires most { n ≤ 4 }
     requires slot { i < length records.now }
     requires kept { length (slice_index_or (all_steps records.now) i []) ≤ n }
-    requires widths { HaveWidth (length schema.now.kinds) (slice_index_or (all_steps records.now) i []) }
+    requires widths { HaveWidth (length schema.now.kinds)
+        (slice_index_or (all_steps records.now) i []) }
     requires columns { into.old.columns ≡ schema.now }
     requires room { length into.old.rows < into.old.room }
     ensures shown { result ≡ shown_of (visible n v (slice_index_or (all_steps records.now) i [])) }
-    ensures row { into.new ≡ with_seen (visible n v (slice_index_or (all_steps records.now) i [])) into.old }
+    ensures row { into.new ≡ with_seen (visible n v
+        (slice_index_or (all_steps records.now) i [])) into.old }
 {
     let record = &records[i];
     let seen = slot_shown(record, v, n);
@@ -101,8 +113,11 @@ fn count_keys(
     requires least { 2 ≤ n }
     requires version { c < 2 ^ 62 }
     requires columns { after.now.columns ≡ schema.now }
-    requires widths { AllByRecursion (HaveWidth (length schema.now.kinds)) (all_steps records.now.items) }
-    ensures { IfOk result (λ m. m ≡ need schema.now.key (map (λ v. rows_at n v (all_steps records.now.items)) (versions_in_use n c) ++ after.now.rows ∷ [])) }
+    requires widths { AllByRecursion (HaveWidth (length schema.now.kinds))
+        (all_steps records.now.items) }
+    ensures { IfOk result (λ m. m ≡ need schema.now.key
+        (map (λ v. rows_at n v (all_steps records.now.items)) (versions_in_use n c)
+        ++ after.now.rows ∷ [])) }
 {
     let _sound = after.schema();
     let mut rows = Relation::new(*records.allocator(), schema.copy()?);
@@ -156,11 +171,13 @@ fn first_slots(
 
 impl PlainView {
     /// The view at version 0, with these rows in the first slots, in the order of their keys. It is
-    /// sound in a store.
+    /// sound in a store where no number is above the greatest.
     pub fn make(alloc: Global, rows: Rows, slots: usize) -> Result<PlainView, NoMemory>
         requires { length rows.rows ≤ slots }
-        ensures made { IfOk result (λ v. v ≡ first_view rows.columns rows.rows (slots - length rows.rows)) }
-        ensures sound { IfOk result (λ v. (n : ℕ) → 2 ≤ n → IsSoundView n 0 v) }
+        ensures made { IfOk result (λ v. v ≡ first_view rows.columns rows.rows
+            (slots - length rows.rows)) }
+        ensures sound { IfOk result (λ v. (n : ℕ) → 2 ≤ n
+            → AreRowsWithin rows.columns.kinds rows.rows → IsSoundView n 0 v) }
     {
         let _sound = rows.schema();
         let spare = slots - rows.len();
@@ -203,7 +220,8 @@ impl PlainView {
         requires least { 2 ≤ n }
         requires version { c < 2 ^ 62 }
         requires columns { after.now.columns ≡ self.now.columns }
-        requires widths { AllByRecursion (HaveWidth (length self.now.columns.kinds)) self.now.records }
+        requires widths { AllByRecursion (HaveWidth
+            (length self.now.columns.kinds)) self.now.records }
         ensures { IfOk result (λ m. m ≡ slots_needed n c self.now after.now.rows) }
     {
         count_keys(&self.records, self.current.schema(), c, n, after)
@@ -228,7 +246,8 @@ impl PlainView {
         requires columns { after.now.columns ≡ self.old.columns }
         requires net { AreNetChanges self.old after.now.rows changes.now }
         ensures same { self.new ≡ self.old }
-        ensures short { IfOk result (λ short. IsShortage (slots_needed n (phase / 2) self.old after.now.rows) (length self.old.records) short) }
+        ensures short { IfOk result (λ short. IsShortage
+            (slots_needed n (phase / 2) self.old after.now.rows) (length self.old.records) short) }
     {
         let alloc = *self.records.allocator();
         let _table = after.schema();
@@ -284,11 +303,13 @@ impl PlainView {
         requires most { n ≤ 4 }
         requires slot { i < length self.now.records }
         requires kept { length (slice_index_or self.now.records i []) ≤ n }
-        requires widths { HaveWidth (length self.now.columns.kinds) (slice_index_or self.now.records i []) }
+        requires widths { HaveWidth (length self.now.columns.kinds)
+            (slice_index_or self.now.records i []) }
         requires columns { into.old.columns ≡ self.now.columns }
         requires room { length into.old.rows < into.old.room }
         ensures shown { result ≡ shown_of (visible n v (slice_index_or self.now.records i [])) }
-        ensures row { into.new ≡ with_seen (visible n v (slice_index_or self.now.records i [])) into.old }
+        ensures row { into.new ≡ with_seen (visible n v
+            (slice_index_or self.now.records i [])) into.old }
     {
         read_slot(&self.records, i, v, n, self.current.schema(), into)
     }

@@ -9,7 +9,7 @@ mod rows;
 #[cfg(test)]
 mod tests;
 
-pub use answers::extend;
+pub use answers::{extend, extend_on};
 pub use asks::{Ask, Reply, Step, steps};
 pub use choice::{Partial, Partials};
 pub use rows::project;

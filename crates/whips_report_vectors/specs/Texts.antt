@@ -1,6 +1,6 @@
 -- Whole reports of worked runs, line by line.
 use Rattle.std.specs.Prelude.{List, [], ◌∷◌, codes}
-use Rattle.whips_reports.specs.Lines.{Bytes, Labels}
+use Rattle.whips_facts.specs.Scripts.{Bytes, Labels}
 
 abbrev pub labels : List Bytes → List Bytes → List Bytes → List Bytes → Labels
 labels sources views sessions texts = record { sources = sources; views = views; sessions = sessions; texts = texts }

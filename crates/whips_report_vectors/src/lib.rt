@@ -1,5 +1,5 @@
 //! Whole reports of worked runs, computed by the checker from the definitions.
-#![tactic(auto)]
+#![tactic(auto, unfolding(whips_steps::specs::Steps::asked_sources))]
 
 ghost use Rattle.std.specs.Prelude.{◌≡◌, []};
 ghost use Rattle.whips_reports.specs.Reported.{listed, picked, run_of};

@@ -6,25 +6,13 @@ use Rattle.serde_json.specs.View.{items_of}
 use Rattle.serde_json.specs.Written.{compact_text}
 use Rattle.whips_model.specs.declared.Kind.{Kind}
 use Rattle.whips_model.specs.declared.Kind.TheVariants.{Number, Text}
-use Rattle.whips_model.specs.declared.ColRef.{ColRef}
 use Rattle.whips_model.specs.Tuples.{Codes}
-use Rattle.whips_model.specs.Relation.{Table}
-use Rattle.whips_choices.specs.KeyedViews.{KeyedView}
 use Rattle.whips_flow.specs.declared.event.Event.{Event}
 use Rattle.whips_flow.specs.declared.event.Event.TheVariants.{Commit, Answer, Integrate, Manage, Rel, Act, Begin, Change, Publish, SessionOpen, SessionScan, SessionFetch, SessionClose}
 use Rattle.whips_runs.specs.Records.{RunRecord, version, skip, opened, more, read, expired, full, final, final_rows}
-use Rattle.whips_facts.specs.Scripts.{Script, view_at}
+use Rattle.whips_view.specs.ViewDefs.{View, kind_of}
+use Rattle.whips_facts.specs.Scripts.{Script, Bytes, Labels}
 use Rattle.whips_reports.specs.Reported.{Reported, reported, Plan, run_of}
-
-abbrev pub Bytes : Type 0
-Bytes = List ℕ
-
--- the names of sources, views and sessions by place, and the texts by code
-pub record Labels : Type 0 where
-  pub sources : List Bytes
-  pub views : List Bytes
-  pub sessions : List Bytes
-  pub texts : List Bytes
 
 abbrev pub name_at : List Bytes → ℕ → Bytes
 name_at names i = slice_index_or names i []
@@ -62,13 +50,10 @@ event_words l (SessionClose s) = codes "close" ∷ name_at l.sessions s ∷ []
 
 -- ---- rows
 
-abbrev pub kinds_in : Option Table → List Kind
-kinds_in None = []
-kinds_in (Some t) = t.columns.kinds
-
--- the kind of one of a view's columns
-abbrev pub kind_of : Script → KeyedView → ColRef → Option Kind
-kind_of s view at = slice_get (kinds_in (slice_get s.initial (slice_index_or view.base.relations at.part 0))) at.col
+-- the kinds of a view's columns
+abbrev pub out_kinds : Option View → List (Option Kind)
+out_kinds None = []
+out_kinds (Some view) = map (kind_of view.bases) view.parts.out
 
 -- a number is its own code, and a text is the one with this code
 abbrev pub value_data : Labels → ℕ → Option Kind → Data
@@ -86,7 +71,7 @@ abbrev pub row_line : Labels → List (Option Kind) → Codes → Bytes
 row_line l kinds row = codes "row " ++ compact_text (array (items_of (row_data l kinds row)))
 
 abbrev pub row_lines : Script → Labels → ℕ → List Codes → List Bytes
-row_lines s l x rows = map (row_line l (map (kind_of s (view_at s x)) (view_at s x).base.out)) rows
+row_lines s l x rows = map (row_line l (out_kinds (slice_get s.setup.views x))) rows
 
 -- ---- records
 

@@ -20,7 +20,8 @@ pub(crate) fn final_text(
     views: &[Text],
     values: &[Relation],
 ) -> Result<String, AllocError>
-    ensures { IfOk result (λ text. string_bytes text ≡ final_text sources.now counts.now views.now (map (λ t. t.rows) values.now)) }
+    ensures { IfOk result (λ text. string_bytes text
+        ≡ final_text sources.now counts.now views.now (map (λ t. t.rows) values.now)) }
 {
     let mut text = String::new(alloc);
     push_final_line(&mut text, sources, counts)?;
@@ -29,7 +30,8 @@ pub(crate) fn final_text(
 }
 
 fn push_final_line(text: &mut String, sources: &[Text], counts: &[u64]) -> Result<(), AllocError>
-    ensures { OnOk result (string_bytes text.new ≡ string_bytes text.old ++ final_line sources.now counts.now) }
+    ensures { OnOk result (string_bytes text.new
+        ≡ string_bytes text.old ++ final_line sources.now counts.now) }
 {
     text.push_str("final")?;
     push_counts(text, sources, counts)?;
@@ -37,7 +39,8 @@ fn push_final_line(text: &mut String, sources: &[Text], counts: &[u64]) -> Resul
 }
 
 fn push_counts(text: &mut String, names: &[Text], counts: &[u64]) -> Result<(), AllocError>
-    ensures { OnOk result (string_bytes text.new ≡ string_bytes text.old ++ counts_text names.now counts.now) }
+    ensures { OnOk result (string_bytes text.new
+        ≡ string_bytes text.old ++ counts_text names.now counts.now) }
 {
     match names {
         [] => Ok(()),
@@ -52,7 +55,8 @@ fn push_counts(text: &mut String, names: &[Text], counts: &[u64]) -> Result<(), 
 }
 
 fn push_count(text: &mut String, name: &str, count: u64) -> Result<(), AllocError>
-    ensures { OnOk result (string_bytes text.new ≡ string_bytes text.old ++ codes " " ++ name.now ++ codes "=" ++ decimal count) }
+    ensures { OnOk result (string_bytes text.new
+        ≡ string_bytes text.old ++ codes " " ++ name.now ++ codes "=" ++ decimal count) }
 {
     write!(text, " {name}={count}")
 }
@@ -63,7 +67,8 @@ fn push_views(
     names: &[Text],
     values: &[Relation],
 ) -> Result<(), AllocError>
-    ensures { OnOk result (string_bytes text.new ≡ string_bytes text.old ++ views_text names.now (map (λ t. t.rows) values.now)) }
+    ensures { OnOk result (string_bytes text.new
+        ≡ string_bytes text.old ++ views_text names.now (map (λ t. t.rows) values.now)) }
 {
     match names {
         [] => Ok(()),
@@ -81,20 +86,23 @@ fn push_views(
 }
 
 fn push_view(alloc: Global, text: &mut String, name: &str, rows: &[Tuple]) -> Result<(), AllocError>
-    ensures { OnOk result (string_bytes text.new ≡ string_bytes text.old ++ view_text name.now rows.now) }
+    ensures { OnOk result (string_bytes text.new
+        ≡ string_bytes text.old ++ view_text name.now rows.now) }
 {
     push_view_line(text, name, rows.len())?;
     push_row_lines(alloc, text, rows)
 }
 
 fn push_view_line(text: &mut String, name: &str, count: usize) -> Result<(), AllocError>
-    ensures { OnOk result (string_bytes text.new ≡ string_bytes text.old ++ view_line name.now count) }
+    ensures { OnOk result (string_bytes text.new
+        ≡ string_bytes text.old ++ view_line name.now count) }
 {
     writeln!(text, "view {name} rows {count}")
 }
 
 fn push_row_lines(alloc: Global, text: &mut String, rows: &[Tuple]) -> Result<(), AllocError>
-    ensures { OnOk result (string_bytes text.new ≡ string_bytes text.old ++ flat_map row_line rows.now) }
+    ensures { OnOk result (string_bytes text.new
+        ≡ string_bytes text.old ++ flat_map row_line rows.now) }
 {
     for row in rows {
         push_row_line(alloc, text, row.codes())?;

@@ -13,7 +13,8 @@ use Rattle.whips_runs.specs.World.{World, is_allowed, after_event, after_turn, w
 use Rattle.whips_runs.specs.Picks.{all_events, is_scan, choices, picked_choice, after_picked_plan}
 use Rattle.whips_runs.specs.Records.{skip, final, final_rows}
 use Rattle.whips_run_laws.specs.Reached.{IsReached, ListedRunsAreReached, PickedRunsAreReached}
-use Rattle.whips_run_laws.proofs.Turns.{turn_step, found_passes}
+use Rattle.whips_run_laws.proofs.Turns.{turn_step}
+use Rattle.whips_lists.proofs.Options.{found_passes}
 
 pub after_join : (f : Facts) (p : Pipeline) (es more : List Event) → after f p (es ++ more) ≡ after f (after f p es) more
 after_join f p [] more = refl
@@ -48,7 +49,7 @@ listed_plan_reached f k [] w r = r
 listed_plan_reached f k (e ∷ es) w r = listed_plan_reached f (suc k) es (after_turn f k e w) (turn_reached f k e w r)
 
 -- an enabled event of the pipeline is allowed
-enabled_allowed : (f : Facts) (w : World) (e : Event) → is_enabled f w.pipeline e ≡ true → is_allowed f w e ≡ true
+pub enabled_allowed : (f : Facts) (w : World) (e : Event) → is_enabled f w.pipeline e ≡ true → is_allowed f w e ≡ true
 enabled_allowed f w (Commit y) h = h
 enabled_allowed f w (Answer y x) h = h
 enabled_allowed f w (Integrate y) h = h
@@ -101,7 +102,7 @@ got_passes test (x ∷ xs) i a h = elim (test x) as (λ b. test x ≡ b → slic
     in_front zero e g more = let xa : x ≡ a = cc in subst (λ z. test z ≡ true) xa e
     in_front (suc i) e g more = more i g
 
-pick_allowed : (f : Facts) (state : ℕ) (w : World) (e : Event) → picked_choice state (choices f w) ≡ Some e → is_allowed f w e ≡ true
+pub pick_allowed : (f : Facts) (state : ℕ) (w : World) (e : Event) → picked_choice state (choices f w) ≡ Some e → is_allowed f w e ≡ true
 pick_allowed f state w e h = (and_parts (is_allowed f w e) (not (is_scan e && leb 1000 w.scan_count)) (got_passes (λ e. is_allowed f w e && not (is_scan e && leb 1000 w.scan_count)) (all_events f) (picked (length (choices f w)) state) e h)).0
 
 pub picked_plan_reached : (n : ℕ) (f : Facts) (state : ℕ) (w : World) → IsReached f w.pipeline → IsReached f (after_picked_plan n f state w).pipeline

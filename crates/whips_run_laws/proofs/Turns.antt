@@ -2,22 +2,22 @@
 use Rattle.std.proofs.Common.{◌≡◌, ℕ, zero, suc, ◌*◌, ◌%◌, ◌<◌, ◌≤◌, Bool, true, false, ◌&&◌, not, List, [], ◌∷◌, length, eqb, Option, Some, None, cond, refl, sym, ap, subst, ◌∙◌, arith, ◌⊎◌, inl, inr}
 use Rattle.std.specs.Prelude.{find, is_some, slice_get}
 use Rattle.std.proofs.lemmas.Bool.{and_from, and_parts}
-use Rattle.whips_flow.specs.Lists.{front}
+use Rattle.whips_lists.specs.Lists.{front}
 use Rattle.whips_flow.specs.Painted.{Row}
 use Rattle.whips_flow.specs.Facts.{Facts, Shortage}
-use Rattle.whips_runs.specs.Sessions.{Scan}
+use Rattle.whips_runs.specs.Sessions.{Scan, scan_of}
 use Rattle.whips_flow.specs.State.{Pipeline}
 use Rattle.whips_flow.specs.Progress.{is_enabled, shortage_at, next, first_enabled, pipeline_events}
 use Rattle.whips_flow.specs.Work.{work, row_work}
 use Rattle.whips_runs.specs.World.{World, is_allowed, after_event, after_pipeline_event, after_fetch, with_record, drained_world}
-use Rattle.whips_runs.specs.Sessions.{scan_of}
 use Rattle.whips_runs.specs.Records.{skip}
 use Rattle.whips_flow.specs.declared.event.Event.{Event}
 use Rattle.whips_flow.specs.declared.event.Event.TheVariants.{Commit, Answer, Integrate, Manage, Rel, Act, Begin, Change, Publish, SessionOpen, SessionScan, SessionFetch, SessionClose}
 use Rattle.whips_drain_laws.specs.Drain.{IsRoomy, HasAllManagers}
 use Rattle.whips_drain_laws.proofs.Falls.{falls, next_shaped}
-use Rattle.whips_drain_laws.proofs.Sums.{front_is}
+use Rattle.whips_lists.proofs.Lists.{front_is}
 use Rattle.whips_run_laws.specs.Runs.{TurnsAreSteps, RunsEnd}
+use Rattle.whips_lists.proofs.Options.{found_passes}
 
 module _ (f : Facts) (w : World) where
   -- an event of the pipeline that is enabled
@@ -104,13 +104,6 @@ ended f (SessionOpen s) w v h = absurd (cc)
 ended f (SessionScan s x) w v h = absurd (cc)
 ended f (SessionFetch s n) w v h = absurd (cc)
 ended f (SessionClose s) w v h = absurd (cc)
-
-pub found_passes : {A : Type 0} (test : A → Bool) (xs : List A) (a : A) → find test xs ≡ Some a → test a ≡ true
-found_passes test [] a h = absurd (cc)
-found_passes test (x ∷ xs) a h = elim (test x) as (λ b. test x ≡ b → cond b (Some x) (find test xs) ≡ Some a → test a ≡ true) [
-  | true ↦ λ e g. let xa : x ≡ a = cc in subst (λ z. test z ≡ true) xa e
-  | false ↦ λ e g. found_passes test xs a g
-] refl h
 
 abbrev pub AtEnd : Facts → World → Type 0
 AtEnd f w = (w.is_full ≡ true) ⊎ (first_enabled f w.pipeline ≡ None)

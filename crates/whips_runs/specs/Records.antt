@@ -3,7 +3,8 @@ use Rattle.std.specs.Prelude.{ℕ, List, ◌/◌, if◌then◌else◌}
 use Rattle.whips_flow.specs.Facts.{Facts, Shortage}
 use Rattle.whips_flow.specs.State.{Pipeline}
 use Rattle.whips_flow.specs.declared.event.Event.{Event}
-use Rattle.whips_runs.specs.Sessions.{Scan, is_stale, has_slots_left}
+use Rattle.whips_runs.specs.Sessions.{Scan, has_slots_left}
+use Rattle.whips_flow.specs.Staleness.{is_stale}
 
 -- one entry of the report. The rows of a read are not in it: they are the view's value at the cut of the version, and those of `final_rows` the view's value at the last cut; own
 pub data RunRecord : Type 0 where

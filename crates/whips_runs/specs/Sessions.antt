@@ -1,6 +1,7 @@
 -- Sessions of readers, and when their versions expire.
-use Rattle.std.specs.Prelude.{ℕ, ◌+◌, ◌-◌, ◌*◌, min, Bool, true, false, ◌&&◌, not, nat_lt, slice_index, Option, Some, None, if◌then◌else◌}
+use Rattle.std.specs.Prelude.{ℕ, ◌+◌, min, Bool, true, false, ◌&&◌, not, nat_lt, slice_index, Option, Some, None, if◌then◌else◌}
 use Rattle.whips_flow.specs.Facts.{Facts}
+use Rattle.whips_flow.specs.Staleness.{is_stale}
 
 -- a scan of a view at a version that has visited the slots before this one; own
 pub record Scan : Type 0 where
@@ -13,10 +14,6 @@ pub data Session : Type 0 where
   not_open : Session
   open_at : (version : ℕ) → Session
   scanning : Scan → Session
-
--- with n versions kept, a session at version v is stale where a newer transaction may have overwritten what it reads; nVNL 1997
-abbrev pub is_stale : (n v phase : ℕ) → Bool
-is_stale n v phase = nat_lt (2 * v + 2 * (n - 1)) phase
 
 abbrev pub is_not_open : Option Session → Bool
 is_not_open None = false

@@ -1,6 +1,6 @@
 -- The pipeline with its sessions, and what each event of a plan does.
-use Rattle.std.specs.Prelude.{ℕ, zero, suc, ◌/◌, Bool, true, false, List, [], ◌∷◌, ◌++◌, map, replicate, slice_get, Option, Some, None, is_some, if◌then◌else◌}
-use Rattle.whips_flow.specs.Lists.{changed_at}
+use Rattle.std.specs.Prelude.{ℕ, zero, suc, ◌/◌, Bool, true, false, ◌&&◌, nat_lt, List, [], ◌∷◌, ◌++◌, length, map, replicate, slice_get, Option, Some, None, is_some, if◌then◌else◌}
+use Rattle.whips_lists.specs.Lists.{changed_at}
 use Rattle.whips_flow.specs.Facts.{Facts, view_places}
 use Rattle.whips_flow.specs.State.{Pipeline, start}
 use Rattle.whips_flow.specs.Progress.{is_enabled, next, shortage_at, first_enabled}
@@ -23,11 +23,11 @@ pub record World : Type 0 where
 
 -- ---- one event
 
--- whether the event is enabled, of the pipeline or of a session; own
+-- whether the event is enabled, of the pipeline or of a session: a scan is of a view that is there, and a fetch of a slot at least; own
 abbrev pub is_allowed : Facts → World → Event → Bool
 is_allowed f w (SessionOpen s) = is_not_open (slice_get w.sessions s)
-is_allowed f w (SessionScan s x) = is_open (slice_get w.sessions s)
-is_allowed f w (SessionFetch s n) = is_some (scan_of (slice_get w.sessions s))
+is_allowed f w (SessionScan s x) = is_open (slice_get w.sessions s) && nat_lt x (length f.slots)
+is_allowed f w (SessionFetch s n) = is_some (scan_of (slice_get w.sessions s)) && nat_lt 0 n
 is_allowed f w (SessionClose s) = is_open (slice_get w.sessions s)
 is_allowed f w e = is_enabled f w.pipeline e
 

@@ -3,7 +3,7 @@
 #![tactic(auto)]
 
 ghost use Rattle.std.specs.Prelude.{◌≡◌, ℕ, ◌≤◌, ◌+◌, ◌-◌, ◌*◌, ◌↔◌, false};
-ghost use Rattle.whips_runs.specs.Sessions.{is_stale};
+ghost use Rattle.whips_flow.specs.Staleness.{is_stale};
 
 /// Where no maintenance transaction is active, a session of an n-version warehouse is at most n - 1
 /// versions behind the current version c exactly where it isn't stale.

@@ -12,7 +12,8 @@ use Rattle.whips_model.specs.Relation.{Table, value_of}
 use Rattle.whips_model.specs.Views.{ViewData}
 use Rattle.whips_rel.specs.declared.update.Update.{Update}
 use Rattle.whips_rel.specs.declared.update.Update.TheVariants.{Insert, Delete}
-use Rattle.whips_states.specs.States.{Updates, changed_at, with_row, without_row, updated, applied, all_applied, state_at}
+use Rattle.whips_states.specs.States.{Updates, with_row, without_row, updated, applied, all_applied, state_at}
+use Rattle.whips_lists.specs.Lists.{changed_at}
 use Rattle.whips_view.specs.ViewDefs.{View, view_of, columns_in, HasBases}
 use Rattle.whips_setup.specs.Setups.{SetupData, setup_of}
 use Rattle.whips_setup.specs.Refusals.{setup_refusal}
@@ -20,7 +21,7 @@ use Rattle.whips_setup.specs.Workloads.{work_refusal, one_each}
 use Rattle.whips_forms.specs.Json.{Text}
 use Rattle.whips_forms.specs.Relations.{SourcesForm}
 use Rattle.whips_view_forms.specs.Views.{ViewForm}
-use Rattle.whips_script.specs.Script.{Script, schemas_of, initial_of, setup_with, are_all_distinct, have_names, are_views_over, is_accepted, script_with, script_if}
+use Rattle.whips_script.specs.Script.{NamedScript, named_script, schemas_of, initial_of, setup_with, are_all_distinct, have_names, are_views_over, is_accepted, script_with, script_if}
 use Rattle.whips_script.specs.Made.{IsScript}
 
 -- ---- counts and the final state
@@ -83,10 +84,6 @@ bases_last db last work views is has = subst (λ l. AllByRecursion (λ view. Has
 
 -- ---- the script
 
-parts_are : (schemas : List Columns) (vs : List ViewForm) → map (λ (v : View). v.parts) (map (λ (v : ViewForm). view_of schemas v.parts) vs) ≡ map (λ v. v.parts) vs
-parts_are schemas [] = refl
-parts_are schemas (v ∷ vs) = ap (λ ps. v.parts ∷ ps) (parts_are schemas vs)
-
 none_is : {X : Type 0} (o : Option X) → o ≡ None → not (is_some o) ≡ true
 none_is o e = ap (λ p. not (is_some p)) e
 
@@ -121,11 +118,10 @@ pub work_refuses : (ss : SourcesForm) (work : List (List Update)) (vs : List Vie
 work_refuses ss work vs e = accepted_not ss work vs (ap (λ b. not (is_some (setup_refusal (schemas_of ss) (setup_with ss vs))) && not b) e ∙ and_false (not (is_some (setup_refusal (schemas_of ss) (setup_with ss vs)))))
 
 script_same : (ss : SourcesForm) (work : List (List Update)) (vs : List ViewForm) (setup : SetupData) → setup ≡ setup_with ss vs → (views : List Text) (w : List (List Updates)) → views ≡ map (λ (v : ViewForm). v.name) vs → w ≡ one_each work
-    → script_with ss work vs ≡ record { sources = ss.names; initial = setup.initial; work = w; names = views; views = map (λ (v : View). v.parts) setup.views }
+    → script_with ss work vs ≡ named_script setup w ss.names views
 script_same ss work vs setup is views w named list =
-    ap₂ (λ (d : SetupData) (l : List (List Updates)). let s : Script = record { sources = ss.names; initial = d.initial; work = l; names = map (λ (v : ViewForm). v.name) vs; views = map (λ (v : ViewForm). v.parts) vs } in s) (sym is) (sym list)
-    ∙ ap₂ (λ (n : List Text) (p : List ViewData). let s : Script = record { sources = ss.names; initial = setup.initial; work = w; names = n; views = p } in s) (sym named)
-    (sym (parts_are (schemas_of ss) vs) ∙ ap (λ (s : SetupData). map (λ (v : View). v.parts) s.views) (sym is))
+    ap₂ (λ (d : SetupData) (l : List (List Updates)). named_script d l ss.names (map (λ (v : ViewForm). v.name) vs)) (sym is) (sym list)
+    ∙ ap (named_script setup w ss.names) (sym named)
 
 -- ---- a script that is made step by step, of sources that are kept
 
@@ -153,7 +149,7 @@ module _ (ss kept : SourcesForm) (work : List (List Update)) (vs : List ViewForm
 
       pub script_ok : (names views : List Text) (w : List (List Updates)) → names ≡ map (λ r. r.name) ss.relations → views ≡ map (λ v. v.name) vs → are_all_distinct kept.names names views ≡ true → are_views_over schemas vs ≡ true
           → setup_refusal (schemas_of kept) setup ≡ None → w ≡ one_each work → work_refusal setup w ≡ None
-          → script_if ss work vs ≡ Some (record { sources = kept.names; initial = setup.initial; work = w; names = views; views = map (λ (v : View). v.parts) setup.views })
+          → script_if ss work vs ≡ Some (named_script setup w kept.names views)
       script_ok names views w relations named distinct passed accepted list valid =
           ap (λ s. script_if s work vs) (sym same)
           ∙ script_made kept work vs
@@ -176,13 +172,8 @@ module _ (ss kept : SourcesForm) (work : List (List Update)) (vs : List ViewForm
 
 -- ---- the values of the views
 
-parts_mapped : (db : List Table) (views : List View) → map (λ p. value_of p db) (map (λ (v : View). v.parts) views) ≡ map (λ v. value_of v.parts db) views
-parts_mapped db [] = refl
-parts_mapped db (v ∷ views) = ap (λ l. value_of v.parts db ∷ l) (parts_mapped db views)
-
--- the value of each view, where all have been taken
-pub values_are : (last final : List Table) (views : List View) (values : List (List Codes)) (x : ℕ) → last ≡ final → length views ≤ x → values ≡ map (λ v. value_of v.parts last) (take x views) → values ≡ map (λ p. value_of p final) (map (λ (v : View). v.parts) views)
-values_are last final views values x same over is = is ∙ ap (map (λ (v : View). value_of v.parts last)) (take_all x views over) ∙ sym (parts_mapped last views) ∙ ap (λ db. map (λ p. value_of p db) (map (λ (v : View). v.parts) views)) same
+pub values_are : (last final : List Table) (views : List View) (values : List (List Codes)) (x : ℕ) → last ≡ final → length views ≤ x → values ≡ map (λ v. value_of v.parts last) (take x views) → values ≡ map (λ (v : View). value_of v.parts final) views
+values_are last final views values x same over is = is ∙ ap (map (λ (v : View). value_of v.parts last)) (take_all x views over) ∙ ap (λ db. map (λ (v : View). value_of v.parts db) views) same
 
 -- ---- views that are made one after another
 

@@ -6,10 +6,10 @@ use Rattle.serde_json.specs.Data.{Data}
 use Rattle.serde_json.specs.Find.{get}
 use Rattle.whips_model.specs.Tuples.{Columns}
 use Rattle.whips_model.specs.Relation.{Table}
-use Rattle.whips_model.specs.Views.{ViewData}
 use Rattle.whips_rel.specs.declared.update.Update.{Update}
 use Rattle.whips_states.specs.States.{Updates, state_at}
 use Rattle.whips_view.specs.ViewDefs.{view_of}
+use Rattle.whips_facts.specs.Scripts.{Script, Labels}
 use Rattle.whips_view.specs.Refusals.{refusal_of}
 use Rattle.whips_setup.specs.Setups.{SetupData, setup_of}
 use Rattle.whips_setup.specs.Refusals.{setup_refusal}
@@ -24,17 +24,14 @@ use Rattle.whips_forms.specs.Rows.{work_in}
 use Rattle.whips_forms.specs.Relations.{SourcesForm, sources_in}
 use Rattle.whips_view_forms.specs.Views.{ViewForm, views_in}
 
--- A script: the names of the sources, all relations with their initial rows, the transactions of each source, and the views with their names.
-pub record Script : Type 0 where
-  pub sources : List Text
-  pub initial : List Table
-  pub work : List (List Updates)
-  pub names : List Text
-  pub views : List ViewData
+-- What is read: a script, and the names in it.
+pub record NamedScript : Type 0 where
+  pub script : Script
+  pub labels : Labels
 
 -- The state after all transactions of all sources.
 abbrev pub final_state : Script → List Table
-final_state s = state_at s.initial s.work (map length s.work)
+final_state s = state_at s.setup.initial s.work (map length s.work)
 
 abbrev pub are_none : Option (List Data) → Bool
 are_none None = false
@@ -72,33 +69,40 @@ are_views_over schemas vs = list_all (λ v. not (is_some (refusal_of schemas v.p
 abbrev pub is_accepted : SourcesForm → List (List Update) → List ViewForm → Bool
 is_accepted ss work vs = not (is_some (setup_refusal (schemas_of ss) (setup_with ss vs))) && not (is_some (work_refusal (setup_with ss vs) (one_each work)))
 
-abbrev pub script_with : SourcesForm → List (List Update) → List ViewForm → Script
-script_with ss work vs = record { sources = ss.names; initial = initial_of ss; work = one_each work; names = map (λ v. v.name) vs; views = map (λ v. v.parts) vs }
+-- The script of this setup and these transactions, with the names of its sources and views, and no sessions.
+abbrev pub named_script : SetupData → List (List Updates) → List Text → List Text → NamedScript
+named_script setup work sources views = record {
+  script = record { setup = setup; work = work; sessions = 0 };
+  labels = record { sources = sources; views = views; sessions = []; texts = [] };
+}
+
+abbrev pub script_with : SourcesForm → List (List Update) → List ViewForm → NamedScript
+script_with ss work vs = named_script (setup_with ss vs) (one_each work) ss.names (map (λ v. v.name) vs)
 
 -- The script of the sources with their updates, each a transaction of its own, and of the views, where names differ and nothing is refused.
-abbrev pub script_if : SourcesForm → List (List Update) → List ViewForm → Option Script
+abbrev pub script_if : SourcesForm → List (List Update) → List ViewForm → Option NamedScript
 script_if ss work vs = if have_names ss vs && are_views_over (schemas_of ss) vs && is_accepted ss work vs then Some (script_with ss work vs) else None
 
-abbrev pub script_views : Data → SourcesForm → List (List Update) → Option Script
+abbrev pub script_views : Data → SourcesForm → List (List Update) → Option NamedScript
 script_views d ss work = option_and_then (script_if ss work) (member_in (codes "views") (views_in ss.relations ss.homes) d)
 
-abbrev pub script_work : Data → SourcesForm → List Data → Option Script
+abbrev pub script_work : Data → SourcesForm → List Data → Option NamedScript
 script_work d ss ds = option_and_then (script_views d ss) (work_in (map (λ r. r.name) ss.relations) (initial_of ss) ds)
 
-abbrev pub script_after : Data → Data → SourcesForm → Option Script
+abbrev pub script_after : Data → Data → SourcesForm → Option NamedScript
 script_after d sources ss = option_and_then (script_work d ss) (elements sources)
 
-abbrev pub script_sources : Data → Data → Option Script
+abbrev pub script_sources : Data → Data → Option NamedScript
 script_sources d sources = option_and_then (script_after d sources) (sources_in sources)
 
 -- A script is an object with `sources`, `views`, and perhaps `sessions`, an empty list.
-abbrev pub script_in : Data → Option Script
+abbrev pub script_in : Data → Option NamedScript
 script_in d = if is_object_of (is_member_of Document) d && is_empty_list (get (codes "sessions") d) then option_and_then (script_sources d) (get (codes "sources") d) else None
 
-abbrev pub script_from : Option Data → Result Script Refusal
+abbrev pub script_from : Option Data → Result NamedScript Refusal
 script_from None = Err Syntax
 script_from (Some d) = ok_or (script_in d) Unbuilt
 
 -- What the bytes are: a script, or the refusal. Bytes that are no JSON text are refused as `Syntax`, and what isn't of a form that is built, or is wrong in another way, as `Unbuilt`.
-abbrev pub script_of : List ℕ → Result Script Refusal
+abbrev pub script_of : List ℕ → Result NamedScript Refusal
 script_of bytes = script_from (document bytes)

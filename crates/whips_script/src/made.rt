@@ -66,8 +66,10 @@ fn make_view(
     schemas: &Vec<Schema>,
     parts: whips_view::ViewParts,
 ) -> Result<ViewDef, ReadErr>
-    ensures ok { IfOk result (λ v. (v ≡ view_of schemas.now.items parts) × (refusal_of schemas.now.items parts ≡ None)) }
-    ensures refused { IfErr result (λ e. e ≢ ReadErr.NoMemory → is_some (refusal_of schemas.now.items parts) ≡ true) }
+    ensures ok { IfOk result (λ v. (v ≡ view_of schemas.now.items parts)
+        × (refusal_of schemas.now.items parts ≡ None)) }
+    ensures refused { IfErr result (λ e. e ≢ ReadErr.NoMemory
+        → is_some (refusal_of schemas.now.items parts) ≡ true) }
 {
     match ViewDef::make(alloc, schemas, parts) {
         Ok(def) => Ok(def),
@@ -84,9 +86,11 @@ pub(crate) fn make_views(
 ) -> Result<MadeViews, ReadErr>
     ensures made { IfOk result (λ m. are_views_over schemas.now.items views.items ≡ true) }
     ensures names { IfOk result (λ m. m.names.items ≡ map (λ v. v.name) views.items) }
-    ensures defs { IfOk result (λ m. m.defs.items ≡ map (λ v. view_of schemas.now.items v.parts) views.items) }
+    ensures defs { IfOk result (λ m. m.defs.items
+        ≡ map (λ v. view_of schemas.now.items v.parts) views.items) }
     ensures slots { IfOk result (λ m. m.slots.items ≡ map (λ v. v.slots) views.items) }
-    ensures refused { IfErr result (λ e. e ≢ ReadErr.NoMemory → are_views_over schemas.now.items views.items ≡ false) }
+    ensures refused { IfErr result (λ e. e ≢ ReadErr.NoMemory
+        → are_views_over schemas.now.items views.items ≡ false) }
 {
     let mut names = Vec::new(alloc);
     let mut defs = Vec::new(alloc);

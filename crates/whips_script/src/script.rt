@@ -36,13 +36,12 @@ pub struct Script {
 }
 
 impl Model for Script {
-    ghost use Rattle.std.specs.Prelude.{map};
-    ghost use Rattle.whips_script.specs.Script.{Script as ScriptData};
+    ghost use Rattle.whips_script.specs.Script.{NamedScript, named_script};
     ghost use Rattle.whips_script.specs.Made.{IsScript};
 
-    ghost Value = { ScriptData };
+    ghost Value = { NamedScript };
 
-    ghost view = { λ s. record { sources = s.sources.items; initial = s.setup.initial; work = s.work; names = s.names.items; views = map (λ v. v.parts) s.setup.views } };
+    ghost view = { λ s. named_script s.setup s.work s.sources.items s.names.items };
 
     ghost invariant = { λ s. IsScript s.setup s.work s.counts.items s.last };
 }
@@ -50,28 +49,29 @@ impl Model for Script {
 impl Script {
     /// The names of its sources.
     pub fn sources(&self) -> &[Text]
-        ensures { result.now ≡ self.now.sources }
+        ensures { result.now ≡ self.now.labels.sources }
     {
         &self.sources
     }
 
     /// The number of each source's transactions.
     pub fn transactions(&self) -> &[u64]
-        ensures { result.now ≡ map length self.now.work }
+        ensures { result.now ≡ map length self.now.script.work }
     {
         &self.counts
     }
 
     /// The names of its views.
     pub fn views(&self) -> &[Text]
-        ensures { result.now ≡ self.now.names }
+        ensures { result.now ≡ self.now.labels.views }
     {
         &self.names
     }
 
     /// The value of each view on the state after all transactions.
     pub fn final_values(&self, alloc: Global) -> Result<Vec<Rows>, NoMemory>
-        ensures { IfOk result (λ values. map (λ t. t.rows) values.items ≡ map (λ v. value_of v (final_state self.now)) self.now.views) }
+        ensures { IfOk result (λ values. map (λ t. t.rows) values.items
+            ≡ map (λ v. value_of v.parts (final_state self.now.script)) self.now.script.setup.views) }
     {
         let mut values = Vec::new(alloc);
         for x in 0..self.setup.views() {
@@ -110,9 +110,13 @@ fn make_setup(
     slots: Vec<u32>,
 ) -> Result<Setup, ReadErr>
     requires { length sources.now.names ≤ 8 }
-    ensures ok { IfOk result (λ s. (s ≡ setup_of (length sources.now.names) sources.now.homes (initial_of sources.now) defs.items slots.items) × (setup_refusal (map (λ r. r.table.columns) sources.now.relations) s ≡ None)) }
+    ensures ok { IfOk result (λ s. (s ≡ setup_of (length sources.now.names) sources.now.homes
+        (initial_of sources.now) defs.items slots.items)
+        × (setup_refusal (map (λ r. r.table.columns) sources.now.relations) s ≡ None)) }
     ensures refused { IfErr result (λ e. e ≢ ReadErr.NoMemory
-        → is_some (setup_refusal (map (λ r. r.table.columns) sources.now.relations) (setup_of (length sources.now.names) sources.now.homes (initial_of sources.now) defs.items slots.items)) ≡ true) }
+        → is_some (setup_refusal (map (λ r. r.table.columns) sources.now.relations)
+            (setup_of (length sources.now.names) sources.now.homes
+            (initial_of sources.now) defs.items slots.items)) ≡ true) }
 {
     let schemas = schemas_of(alloc, &sources.relations)?;
     let initial = initial_relations(alloc, &sources.relations)?;
@@ -127,8 +131,10 @@ fn make_setup(
 
 /// The workload of these updates, each a transaction of its own, where nothing refuses it.
 fn make_work(alloc: Global, setup: &Setup, work: Vec<Vec<Update>>) -> Result<Workload, ReadErr>
-    ensures ok { IfOk result (λ w. (w ≡ one_each (map (λ us. us.items) work.items)) × (work_refusal setup.now w ≡ None)) }
-    ensures refused { IfErr result (λ e. e ≢ ReadErr.NoMemory → is_some (work_refusal setup.now (one_each (map (λ us. us.items) work.items))) ≡ true) }
+    ensures ok { IfOk result (λ w. (w ≡ one_each (map (λ us. us.items) work.items))
+        × (work_refusal setup.now w ≡ None)) }
+    ensures refused { IfErr result (λ e. e ≢ ReadErr.NoMemory
+        → is_some (work_refusal setup.now (one_each (map (λ us. us.items) work.items))) ≡ true) }
 {
     match Workload::make(alloc, setup, work) {
         Ok(work) => Ok(work),
@@ -140,7 +146,8 @@ fn make_work(alloc: Global, setup: &Setup, work: Vec<Vec<Update>>) -> Result<Wor
 /// Whether names of sources, of relations and of views differ among themselves.
 fn check_names(sources: &[Text], relations: &[Text], views: &[Text]) -> Result<(), ReadErr>
     ensures ok { OnOk result (are_all_distinct sources.now relations.now views.now ≡ true) }
-    ensures refused { IfErr result (λ e. e ≢ ReadErr.NoMemory → are_all_distinct sources.now relations.now views.now ≡ false) }
+    ensures refused { IfErr result (λ e. e ≢ ReadErr.NoMemory
+        → are_all_distinct sources.now relations.now views.now ≡ false) }
 {
     if are_distinct(sources) && are_distinct(relations) && are_distinct(views) {
         return Ok(());
@@ -159,9 +166,12 @@ fn make_script(
 ) -> Result<Script, ReadErr>
     requires names { names.items ≡ map (λ r. r.name) sources.relations }
     requires few { length sources.names ≤ 8 }
-    requires last { last.items ≡ all_applied (initial_of sources) (map (λ us. us.items) work.items) }
-    ensures ok { IfOk result (λ s. script_if sources (map (λ us. us.items) work.items) views.items ≡ Some s) }
-    ensures refused { IfErr result (λ e. e ≢ ReadErr.NoMemory → script_if sources (map (λ us. us.items) work.items) views.items ≡ None) }
+    requires last { last.items ≡ all_applied (initial_of sources)
+        (map (λ us. us.items) work.items) }
+    ensures ok { IfOk result (λ s. script_if sources (map (λ us. us.items) work.items) views.items
+        ≡ Some s) }
+    ensures refused { IfErr result (λ e. e ≢ ReadErr.NoMemory
+        → script_if sources (map (λ us. us.items) work.items) views.items ≡ None) }
 {
     let counts = counts_of(alloc, &work)?;
     let schemas = schemas_of(alloc, &sources.relations)?;
@@ -188,8 +198,10 @@ fn read_rest(
 ) -> Result<Script, ReadErr>
     requires relations { length sources.relations ≤ 32 }
     requires few { length sources.names ≤ 8 }
-    ensures ok { IfOk result (λ s. script_work (view document.now) sources (map view items.now) ≡ Some s) }
-    ensures refused { IfErr result (λ e. e ≢ ReadErr.NoMemory → script_work (view document.now) sources (map view items.now) ≡ None) }
+    ensures ok { IfOk result (λ s. script_work (view document.now) sources (map view items.now)
+        ≡ Some s) }
+    ensures refused { IfErr result (λ e. e ≢ ReadErr.NoMemory
+        → script_work (view document.now) sources (map view items.now) ≡ None) }
 {
     let names = relation_names(alloc, &sources.relations)?;
     let mut last = initial_relations(alloc, &sources.relations)?;

@@ -2,13 +2,15 @@
 use Rattle.std.proofs.Common.{◌≡◌, ℕ, suc, ◌-◌, ◌<◌, ◌≤◌, Bool, true, false, List, [], ◌∷◌, ◌++◌, length, Some, None, eqb, refl, sym, ap, subst, ◌∙◌, arith, ◌⊎◌, inl, inr, ⊎_elim}
 use Rattle.std.specs.Prelude.{slice_get, slice_index, fold, find}
 use Rattle.std.proofs.lemmas.Bool.{eqb-true, eqb-false}
-use Rattle.whips_flow.specs.Lists.{changed_at, front, without_front}
+use Rattle.whips_lists.specs.Lists.{changed_at, front, without_front}
 use Rattle.whips_flow.specs.Facts.{Facts}
 use Rattle.whips_flow.specs.Painted.{Row, white, is_ready}
 use Rattle.whips_flow.specs.State.{Pipeline, Source, Manager, Merge, QueryStep, NumberedTransaction, SourceMessage, sent_transaction, sent_answer, ManagerMessage, update, reply, with_source}
 use Rattle.whips_flow.specs.Effects.{with_ask, after_commit, after_answer, with_step_asked, with_list_unless, with_list_if_answered}
-use Rattle.whips_closure_laws.proofs.Grown.{In}
-use Rattle.whips_settled_laws.proofs.Spots.{some_same, front_is, in_append, in_left, in_right, in_changed, in_changed_from, get_in, get_there, get_changed, get_cases, get_changed_other, length_changed}
+use Rattle.whips_lists.proofs.InList.{In}
+use Rattle.whips_lists.proofs.ByPlace.{in_append, in_left, in_right, in_changed, in_changed_from, get_in, get_there, get_changed, get_cases, get_changed_other}
+use Rattle.whips_lists.proofs.Options.{some_same}
+use Rattle.whips_lists.proofs.Lists.{front_is, length_changed}
 
 -- ---- the open steps
 

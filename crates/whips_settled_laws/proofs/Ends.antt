@@ -1,11 +1,10 @@
 -- At the end nothing is left.
 use Rattle.std.proofs.Common.{◌≡◌, ℕ, suc, ◌+◌, ◌%◌, ◌<◌, Bool, true, false, ◌&&◌, not, List, [], ◌∷◌, ◌++◌, length, Option, Some, None, cond, eqb, ltb, refl, sym, ap, subst, ◌∙◌, arith, inl, inr, ⊎_elim}
-use Rattle.std.specs.Prelude.{slice_get, slice_index, map, fold, is_some}
+use Rattle.std.specs.Prelude.{slice_get, slice_index, map, fold, is_some, replicate}
 use Rattle.std.specs.List.{list_all, flat_map}
 use Rattle.std.proofs.lemmas.Bool.{and_parts, and_from, and_cases, eqb-false, ltb-false, false≢true, not_from_false, and_right}
-use Rattle.whips_flow.specs.Lists.{front, without_front, places_from}
+use Rattle.whips_lists.specs.Lists.{front, without_front, places_from}
 use Rattle.std.specs.Option.{option_and_then}
-use Rattle.std.specs.Prelude.{replicate}
 use Rattle.whips_flow.specs.Facts.{Facts, view_places, source_places}
 use Rattle.whips_flow.specs.Painted.{Row, Colour, black, white, red, closure, is_ready, is_white, is_waiting, has_number}
 use Rattle.whips_flow.specs.State.{Pipeline, Source, Manager, Writer, QueryStep, SourceMessage, ManagerMessage, update, reply, sent_answer, start, new_source, new_manager, oldest_message, oldest_ask, oldest_manager_message, oldest_list, with_source, with_manager}
@@ -13,22 +12,22 @@ use Rattle.whips_flow.specs.Progress.{after, step, is_done, is_enabled, has_unco
 use Rattle.whips_flow.specs.Effects.{next_cut, without_list, after_answer, after_integrate, after_message, with_list_if_answered, after_begin, after_change, after_publish, with_announced_row, with_waiting_list, without_row_set, after_rel, after_act}
 use Rattle.whips_flow.specs.declared.event.Event.{Event}
 use Rattle.whips_flow.specs.declared.event.Event.TheVariants.{Commit, Answer, Integrate, Manage, Rel, Act, Begin, Change, Publish, SessionOpen, SessionScan, SessionFetch, SessionClose}
-use Rattle.whips_closure_laws.proofs.Grown.{In, all_in, all_from, any_to}
+use Rattle.whips_lists.proofs.InList.{In, all_in, all_from, any_to}
 use Rattle.whips_settled_laws.specs.Settled.{AsksSourcesOfRun, IsQuietSource, IsQuietManager, IsSettled, NothingIsLeft}
-use Rattle.whips_settled_laws.proofs.Spots.{of_some_is, front_is, front_nil, in_left, in_right, get_in, in_get, get_within, find_none, in_copies, length_copies}
+use Rattle.whips_lists.proofs.ByPlace.{in_left, in_right, get_in, in_get, get_within, find_none, in_copies}
+use Rattle.whips_lists.proofs.Options.{of_some_is}
+use Rattle.whips_lists.proofs.Lists.{front_is, front_nil}
+use Rattle.std.proofs.lemmas.List.{length-replicate}
 use Rattle.whips_settled_laws.proofs.Accounts.{Flying, HasUpdate, HasFrom, IsOpen, Reason, latest, ManagerFits, Accounted, Settled, commit_kept, answer_kept}
 use Rattle.whips_settled_laws.proofs.Moves.{manage_kept, integrate_kept, in_places}
 use Rattle.whips_settled_laws.proofs.Settles.{released_kept, acted_kept, settled_is}
+use Rattle.whips_lists.proofs.Options.{some_of, none_of}
 
 -- ---- events
 
 pub record Sound (f : Facts) (p : Pipeline) : Type 0 where
   pub accounted : Accounted f p
   pub settled : Settled p.merge
-
-some_of : {A : Type 0} (o : Option A) → is_some o ≡ true → (a : A) × (o ≡ Some a)
-some_of None h = absurd (cc)
-some_of (Some a) h = (a, refl)
 
 -- the writer changes, and row sets leave
 writer_kept : (f : Facts) (p : Pipeline) (sets : List (List Row)) (w : Writer) → Sound f p → Sound f (record p { merge = record (p.merge) { row_sets = sets }; writer = w })
@@ -111,10 +110,10 @@ start_sound f =
     let k = length f.slots in
     record {
       accounted = record {
-        sources_long = length_copies n (new_source f);
-        asks_long = λ s i. ap (λ z. length z.asks) (sym (in_copies n (new_source f) s i)) ∙ length_copies {A = List QueryStep} k [];
-        managers_long = length_copies k new_manager;
-        waiting_long = length_copies {A = List ℕ} k [];
+        sources_long = length-replicate n (new_source f);
+        asks_long = λ s i. ap (λ z. length z.asks) (sym (in_copies n (new_source f) s i)) ∙ length-replicate {A = List QueryStep} k [];
+        managers_long = length-replicate k new_manager;
+        waiting_long = length-replicate {A = List ℕ} k [];
         fits = λ x m a. subst (λ z. ManagerFits (replicate n (new_source f)) 0 x z) (get_copies k x new_manager m a) (record { tokens = λ t i. absurd i; rises = omega arith; lists = λ j i. absurd i });
         waiting_low = λ x js j a i. absurd (subst (λ l. In j l) (sym (get_copies {A = List ℕ} k x [] js a)) i);
         latest_low = omega arith;
@@ -145,10 +144,6 @@ in_flat g x y (z ∷ xs) (inr i) j = in_right y (g z) (flat_map g xs) (in_flat g
 nil_from : {A : Type 0} (xs : List A) → ((x : A) → In x xs → ⊥) → xs ≡ []
 nil_from [] h = refl
 nil_from (x ∷ xs) h = absurd (h x (inl refl))
-
-no_some : {A : Type 0} (o : Option A) → is_some o ≡ false → o ≡ None
-no_some None h = refl
-no_some (Some a) h = absurd (cc)
 
 place : (n i : ℕ) → i < n → In i (places_from 0 n)
 place n i lt = let z : 0 + i ≡ i = omega arith in subst (λ w. In w (places_from 0 n)) z (in_places 0 n i lt)
@@ -213,18 +208,18 @@ module _ (f : Facts) (p : Pipeline) (s : Sound f p) (none : first_enabled f p �
       let y = in_get p.sources q i in
       let lt : y.0 < length f.transactions = omega (arith, y.1, h.sources_long) in
       record {
-        messages = front_nil q.messages (ap (λ o. option_and_then (λ s. front s.messages) o) (sym y.2) ∙ no_some (oldest_message p y.0) (integrate_off y.0 lt));
+        messages = front_nil q.messages (ap (λ o. option_and_then (λ s. front s.messages) o) (sym y.2) ∙ none_of (oldest_message p y.0) (integrate_off y.0 lt));
         asks = all_from (λ l. l ≡ []) q.asks (λ l j.
             let x = in_get q.asks l j in
             let lx : x.0 < length f.slots = omega (arith, x.1, h.asks_long q i) in
-            front_nil l (ap (λ o. option_and_then front o) (sym x.2) ∙ (ap (λ o. option_and_then (λ s. option_and_then front (slice_get s.asks x.0)) o) (sym y.2) ∙ no_some (oldest_ask p y.0 x.0) (answer_off y.0 x.0 lt lx))));
+            front_nil l (ap (λ o. option_and_then front o) (sym x.2) ∙ (ap (λ o. option_and_then (λ s. option_and_then front (slice_get s.asks x.0)) o) (sym y.2) ∙ none_of (oldest_ask p y.0 x.0) (answer_off y.0 x.0 lt lx))));
       }
 
   notes_off : (m : Manager) (x : ℕ) → slice_get p.managers x ≡ Some m → m.messages ≡ []
-  notes_off m x a = front_nil m.messages (ap (λ o. option_and_then (λ m. front m.messages) o) (sym a) ∙ no_some (oldest_manager_message p x) (manage_off x (omega (arith, get_within x p.managers m a, h.managers_long))))
+  notes_off m x a = front_nil m.messages (ap (λ o. option_and_then (λ m. front m.messages) o) (sym a) ∙ none_of (oldest_manager_message p x) (manage_off x (omega (arith, get_within x p.managers m a, h.managers_long))))
 
   lists_off : (m : Manager) (x : ℕ) → slice_get p.managers x ≡ Some m → m.lists ≡ []
-  lists_off m x a = front_nil m.lists (ap (λ o. option_and_then (λ m. front m.lists) o) (sym a) ∙ no_some (oldest_list p x) (act_off x (omega (arith, get_within x p.managers m a, h.managers_long))))
+  lists_off m x a = front_nil m.lists (ap (λ o. option_and_then (λ m. front m.lists) o) (sym a) ∙ none_of (oldest_list p x) (act_off x (omega (arith, get_within x p.managers m a, h.managers_long))))
 
   no_flying : (x : ℕ) (t : QueryStep) → Flying x t p.sources → ⊥
   no_flying x t (q, i, inl (l, a, j)) = subst (λ w. In t w) (all_in (λ l. l ≡ []) q.asks l (quiet q i).asks (get_in x q.asks l a)) j
@@ -234,7 +229,7 @@ module _ (f : Facts) (p : Pipeline) (s : Sound f p) (none : first_enabled f p �
   open_off m x a = nil_from m.open_steps (λ t i. ⊎_elim (λ fl. no_flying x t fl) (λ r. subst (λ w. In (reply t) w) (notes_off m x a) r) ((h.fits x m a).tokens t i))
 
   coming_off : p.announcements ≡ []
-  coming_off = front_nil p.announcements (no_some (front p.announcements) (off Rel (in2 Rel (inl refl))))
+  coming_off = front_nil p.announcements (none_of (front p.announcements) (off Rel (in2 Rel (inl refl))))
 
   waiting_off : (js : List ℕ) (x : ℕ) → slice_get p.merge.waiting_lists x ≡ Some js → js ≡ []
   waiting_off js x a = front_nil js (go (front js) refl)
@@ -277,7 +272,7 @@ module _ (f : Facts) (p : Pipeline) (s : Sound f p) (none : first_enabled f p �
 
   sets_off : p.merge.row_sets ≡ []
   sets_off = front_nil p.merge.row_sets (⊎_elim
-      (λ e. no_some (front p.merge.row_sets) e)
+      (λ e. none_of (front p.merge.row_sets) e)
       (λ e. absurd (eqb-false (p.writer.phase % 2) 0 e even))
       (and_cases (is_some (front p.merge.row_sets)) (eqb (p.writer.phase % 2) 0) (off Begin (in1 Begin (inr (inr (inl refl)))))))
 

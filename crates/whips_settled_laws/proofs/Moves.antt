@@ -3,14 +3,16 @@ use Rattle.std.proofs.Common.{◌≡◌, ℕ, zero, suc, ◌+◌, ◌-◌, ◌<�
 use Rattle.std.specs.Prelude.{slice_get, slice_index, filter, fold}
 use Rattle.std.specs.List.{AllByRecursion, list_any}
 use Rattle.std.proofs.lemmas.Bool.{and_from, eq-eqb, eqb-true, eqb-false, ltb-true, false≢true, not-true}
-use Rattle.whips_flow.specs.Lists.{changed_at, map_with_place, front, without_front, places_from}
+use Rattle.whips_lists.specs.Lists.{changed_at, map_with_place, front, without_front, places_from}
 use Rattle.whips_flow.specs.Facts.{Facts, view_places}
 use Rattle.whips_flow.specs.Painted.{Row, white}
 use Rattle.whips_flow.specs.State.{Pipeline, Source, Manager, QueryStep, NumberedTransaction, SourceMessage, sent_transaction, sent_answer, ManagerMessage, update, reply, oldest_message, oldest_manager_message, with_source, with_manager}
 use Rattle.whips_flow.specs.Effects.{without_message, without_manager_message, with_manager_message, entry_of, row_of, notified_manager, after_numbering, after_integrate, is_same_query, next_step, advanced_step, with_step_asked, first_steps, with_transaction, with_next_step, without_query, after_message, with_list_if_answered}
-use Rattle.whips_closure_laws.proofs.Grown.{In, any_from}
+use Rattle.whips_lists.proofs.InList.{In, any_from}
 use Rattle.whips_settled_laws.specs.Settled.{AsksSourcesOfRun}
-use Rattle.whips_settled_laws.proofs.Spots.{some_same, of_some_is, front_is, in_append, in_left, in_right, in_filter, in_map, in_changed, in_changed_from, get_there, get_within, get_changed, get_cases, get_changed_other, length_changed, changed_twice, length_map_at, get_map_at, get_mapped_at, get_map}
+use Rattle.whips_lists.proofs.ByPlace.{in_append, in_left, in_right, in_filter, in_map, in_changed, in_changed_from, get_there, get_within, get_changed, get_cases, get_changed_other, changed_twice, get_map_at, get_mapped_at, get_map}
+use Rattle.whips_lists.proofs.Options.{some_same, of_some_is}
+use Rattle.whips_lists.proofs.Lists.{front_is, length_changed, length_map_at}
 use Rattle.whips_settled_laws.proofs.Accounts.{Holds, Flying, HasUpdate, Reason, Rises, rises_up, rises_update, rises_reply, has_update_left, has_update_last, latest, latest_push, RisingRows, ManagerFits, Waits, WhiteWaits, Accounted, source_kept, asked_one, asks_are, flying_ask, flying_asks, Shape, shape_ask, shape_asks, flying_new, flying_news, manager_kept, give_reason, give_fits, old_reason}
 
 -- ---- manage

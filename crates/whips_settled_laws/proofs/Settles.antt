@@ -3,14 +3,17 @@ use Rattle.std.proofs.Common.{◌≡◌, ℕ, zero, suc, ◌+◌, ◌<◌, ◌�
 use Rattle.std.specs.Prelude.{slice_get, map, fold, find}
 use Rattle.std.proofs.lemmas.Bool.{eqb-true, eqb-false, leb-true, leb-false}
 use Rattle.std.proofs.lemmas.List.{length-map}
-use Rattle.whips_flow.specs.Lists.{changed_at, front, without_front}
+use Rattle.whips_lists.specs.Lists.{changed_at, front, without_front}
 use Rattle.whips_flow.specs.Facts.{Facts}
 use Rattle.whips_flow.specs.Painted.{Row, Colour, black, white, red, reddened_entry, painted_rows, painted_row, closure, is_ready, has_number}
 use Rattle.whips_flow.specs.State.{Pipeline, Manager, Merge, oldest_list}
 use Rattle.whips_flow.specs.Effects.{without_list, with_announced_row, with_waiting_list, after_rel, after_act}
 use Rattle.whips_flow.specs.Settling.{due_lists, later_lists, rows_after_lists, painted_merge, with_set_taken, with_ready_taken, settled_merge}
-use Rattle.whips_closure_laws.proofs.Grown.{In, closure_least}
-use Rattle.whips_settled_laws.proofs.Spots.{some_same, of_some_is, front_is, in_append, in_left, in_right, in_filter, in_map, get_changed, get_cases, get_changed_other, length_changed, get_map, get_mapped, find_in, fewer}
+use Rattle.whips_closure_laws.proofs.Grown.{closure_least}
+use Rattle.whips_lists.proofs.InList.{In}
+use Rattle.whips_lists.proofs.ByPlace.{in_append, in_left, in_right, in_filter, in_map, get_changed, get_cases, get_changed_other, get_map, get_mapped, find_in, fewer}
+use Rattle.whips_lists.proofs.Options.{some_same, of_some_is}
+use Rattle.whips_lists.proofs.Lists.{front_is, length_changed}
 use Rattle.whips_settled_laws.proofs.Accounts.{HasFrom, Reason, has_from_left, has_from_last, latest, RisingRows, ManagerFits, Waits, Accounted, Settled}
 
 -- ---- painting

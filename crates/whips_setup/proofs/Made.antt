@@ -7,7 +7,7 @@ use Rattle.std.proofs.lemmas.List.{length-map}
 use Rattle.whips_model.specs.Tuples.{Columns}
 use Rattle.whips_model.specs.Relation.{Table}
 use Rattle.whips_states.specs.States.{AreSoundTables}
-use Rattle.whips_view.specs.ViewDefs.{View, HasBases, is_within}
+use Rattle.whips_view.specs.ViewDefs.{View, HasBases, IsWellFormed, is_within}
 use Rattle.whips_setup.specs.Setups.{setup_of}
 use Rattle.whips_setup.specs.Limits.{relations_at, have_relations, are_initial, has_bases, are_sources_within, are_views_within}
 use Rattle.whips_setup.specs.Refusals.{slots_refusal, setup_refusal, IsSetup}
@@ -91,8 +91,8 @@ module _ (sources : ℕ) (homes : List ℕ) (schemas : List Columns) (initial : 
     accepted : slots_refusal 0 initial views slots ≡ None → setup_refusal schemas (setup_of sources homes initial views slots) ≡ None
     accepted e = rw (s, v) e
 
-    pub made : slots_refusal 0 initial views slots ≡ None → AreSoundTables initial → IsSetup (setup_of sources homes initial views slots)
-    made e sound = record {
+    pub made : slots_refusal 0 initial views slots ≡ None → AreSoundTables initial → AllByRecursion IsWellFormed views → IsSetup (setup_of sources homes initial views slots)
+    made e sound well = record {
       accepted = subst (λ cs. setup_refusal cs (setup_of sources homes initial views slots) ≡ None) (schemas_are schemas initial checked.1) (accepted e);
       versions = refl;
       homes = lengths;
@@ -100,5 +100,6 @@ module _ (sources : ℕ) (homes : List ℕ) (schemas : List Columns) (initial : 
       slots = eqb-true (length slots) (length views) fitting.second;
       views = within 1 8 (length views) fitting.first;
       bases = over;
+      well_formed = well;
       tables = sound;
     }

@@ -10,7 +10,8 @@ use Rattle.whips_model.specs.Relation.{Table}
 use Rattle.whips_rel.specs.declared.update.Update.{Update}
 use Rattle.whips_rel.specs.declared.update.Update.TheVariants.{Insert, Delete}
 use Rattle.whips_rel.specs.Updates.{relation_of, tuple_of}
-use Rattle.whips_states.specs.States.{Updates, changed_at, with_row, without_row, updated, applied, IsValidIn, IsValid, AreValid, AreAllValid}
+use Rattle.whips_states.specs.States.{Updates, with_row, without_row, updated, applied, IsValidIn, IsValid, AreValid, AreAllValid}
+use Rattle.whips_lists.specs.Lists.{changed_at}
 use Rattle.whips_view.specs.ViewDefs.{columns_in, is_within}
 use Rattle.whips_setup.specs.declared.error.BatchErr.{BatchErr}
 use Rattle.whips_setup.specs.declared.error.BatchErr.TheVariants.{Foreign, Present, Absent, NoMemory}

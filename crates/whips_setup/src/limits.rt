@@ -1,8 +1,8 @@
 //! The checks of a setup's making.
-ghost use Rattle.std.specs.Prelude.{◌≡◌, ◌<◌, ◌≤◌, ◌+◌, ◌^◌, length, nat_lt, slice_get, drop};
-ghost use Rattle.std.specs.List.{list_all};
+ghost use Rattle.std.specs.Prelude.{◌≡◌, true, ◌<◌, ◌≤◌, ◌+◌, ◌^◌, length, nat_lt, slice_get, drop};
+ghost use Rattle.std.specs.List.{AllByRecursion, list_all};
 ghost use Rattle.whips_rel.specs.Chunks.{joined};
-ghost use Rattle.whips_view.specs.ViewDefs.{is_within};
+ghost use Rattle.whips_view.specs.ViewDefs.{is_within, IsWellFormed};
 ghost use Rattle.whips_view.specs.Refusals.{is_same_kind};
 ghost use Rattle.whips_setup.specs.Limits.{relations_at, have_relations, are_distinct, is_schema, are_same_kinds, are_same_places, are_same_columns, has_numbers_within, is_initial, are_initial, is_source, is_over, are_bases, has_bases, are_sources_within, are_views_within};
 
@@ -233,7 +233,8 @@ fn are_bases(
 ) -> bool
     requires parts { part + length relations.now ≡ length view.now.bases }
     requires bound { length view.now.bases < 2 ^ 32 }
-    ensures { result ≡ are_bases at.now initial.now relations.now homes.now (drop part view.now.bases) }
+    ensures { result ≡ are_bases at.now initial.now relations.now homes.now
+        (drop part view.now.bases) }
 {
     match relations {
         [] => true,
@@ -253,9 +254,10 @@ fn are_bases(
     }
 }
 
-/// Whether the view is over these relations, which are at these sources.
+/// Whether the view is over these relations, which are at these sources. That it is well formed is said here.
 fn has_bases(at: &[u32], initial: &[Relation], view: &ViewDef) -> bool
-    ensures { result ≡ has_bases at.now initial.now view.now }
+    ensures answer { result ≡ has_bases at.now initial.now view.now }
+    ensures sound { IsWellFormed view.now }
 {
     let parts = view.parts();
     are_bases(at, initial, view, 0, parts.relations(), parts.homes())
@@ -263,7 +265,8 @@ fn has_bases(at: &[u32], initial: &[Relation], view: &ViewDef) -> bool
 
 /// Whether each view is over these relations.
 fn have_bases(at: &[u32], initial: &[Relation], views: &[ViewDef]) -> bool
-    ensures { result ≡ list_all (has_bases at.now initial.now) views.now }
+    ensures answer { result ≡ list_all (has_bases at.now initial.now) views.now }
+    ensures sound { result ≡ true → AllByRecursion IsWellFormed views.now }
 {
     match views {
         [] => true,
@@ -307,7 +310,8 @@ pub(crate) fn are_views_within(
     views: &[ViewDef],
     slots: &[u32],
 ) -> bool
-    ensures { result ≡ are_views_within homes.now initial.now views.now slots.now }
+    ensures answer { result ≡ are_views_within homes.now initial.now views.now slots.now }
+    ensures sound { result ≡ true → AllByRecursion IsWellFormed views.now }
 {
     is_counted(views.len(), MAX_VIEWS)
         && slots.len() == views.len()

@@ -5,9 +5,9 @@ use Rattle.std.specs.List.{AllByRecursion}
 use Rattle.std.specs.Ordering.{nat_cmp}
 use Rattle.std.specs.BTreeMap.{is_at}
 use Rattle.std.proofs.lemmas.List.{length-set, get_or-set_same, get_or-set_other}
-use Rattle.whips_model.specs.Members.{Has}
+use Rattle.whips_lists.specs.Members.{Has}
 use Rattle.whips_model.specs.Tuples.{Codes}
-use Rattle.whips_model.proofs.Members.{has_first, has_left, has_right}
+use Rattle.whips_lists.proofs.Members.{has_first, has_left, has_right}
 use Rattle.whips_vnl.specs.Records.{visible}
 use Rattle.whips_vnl.specs.declared.record.Vstep.{Vstep}
 use Rattle.whips_store.specs.Versions.{versions_in_use, is_nothing, shows_key, is_older, is_free}

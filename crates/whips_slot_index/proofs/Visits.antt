@@ -7,10 +7,10 @@ use Rattle.std.specs.BTreeMap.{is_at}
 use Rattle.std.specs.Map.{lookup}
 use Rattle.std.proofs.lemmas.List.{length-map}
 use lib.Pointwise.{pointwise, bytes_decides}
-use Rattle.whips_model.specs.Members.{Has}
+use Rattle.whips_lists.specs.Members.{Has}
 use Rattle.whips_model.specs.Tuples.{Codes, at_columns}
 use Rattle.whips_model.proofs.Keyed.{all_at}
-use Rattle.whips_model.proofs.Members.{has_first, has_none, has_cases, has_left, has_right, has_either}
+use Rattle.whips_lists.proofs.Members.{has_first, has_none, has_cases, has_left, has_right, has_either}
 use Rattle.whips_vnl.specs.Records.{visible, steps_or_none}
 use Rattle.whips_vnl.specs.declared.record.Vstep.{Vstep}
 use Rattle.whips_store.specs.Versions.{versions_in_use, is_nothing, shows_key, is_older, is_free}

@@ -5,7 +5,7 @@ use Rattle.std.specs.Ordering.{nat_cmp}
 use Rattle.std.specs.BTreeMap.{is_at}
 use Rattle.std.specs.Map.{lookup}
 use lib.Pointwise.{pointwise}
-use Rattle.whips_model.specs.Members.{Has}
+use Rattle.whips_lists.specs.Members.{Has}
 use Rattle.whips_model.specs.Tuples.{Codes, at_columns}
 use Rattle.whips_vnl.specs.Records.{visible}
 use Rattle.whips_vnl.specs.declared.record.Vstep.{Vstep}

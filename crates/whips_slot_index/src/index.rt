@@ -3,14 +3,14 @@ ghost use Rattle.std.specs.Prelude.{◌≡◌, ◌↔◌, ◌+◌, ◌*◌, ◌<
 ghost use Rattle.std.specs.List.{position, AllByRecursion};
 ghost use Rattle.std.specs.List.Sorted.{IsStrictlySortedBy};
 ghost use Rattle.std.specs.Ordering.{nat_cmp};
-ghost use Rattle.whips_flow.specs.Lists.{places_from};
+ghost use Rattle.whips_lists.specs.Lists.{places_from};
 ghost use Rattle.whips_net.specs.Made.{change_key};
 ghost use Rattle.whips_vnl.specs.Records.{steps_or_none};
 ghost use Rattle.whips_store.specs.Versions.{versions_in_use, shows_key, is_free};
 ghost use Rattle.whips_store.specs.Calls.{slot_for};
 ghost use Rattle.whips_store.specs.Sound.{HaveWidth, HasSlotForKey, IsSlot};
 ghost use Rattle.whips_slot_index.specs.Slots.{all_steps, AreKept, row_among};
-ghost use Rattle.whips_model.specs.Members.{Has};
+ghost use Rattle.whips_lists.specs.Members.{Has};
 ghost use Rattle.whips_slot_index.specs.Indexes.{is_among, IsIndex, AreVisited, IsNotedAt, ForgetsAt, IsKeyVisited, IsSlotVisited, IsTaken, unknown_keys};
 
 use crate::slots::{is_slot_free, newest_row, nothing_at, row_in_use, shows_change};
@@ -38,7 +38,14 @@ impl Model for SlotIndex {
 
     ghost Value = { IndexData };
 
-    ghost view = { λ f. record { versions = f.versions; committed = f.committed; slots = f.slots.entries; free = f.free.keys; revisit = f.revisit.items } };
+    ghost view = { λ f. record {
+      versions = f.versions;
+      committed = f.committed;
+      slots =
+          f.slots.entries;
+      free = f.free.keys;
+      revisit = f.revisit.items;
+    } };
 }
 
 /// The places below `count`, in order.
@@ -64,10 +71,12 @@ impl SlotIndex {
         requires least { 2 ≤ n }
         requires most { n ≤ 4 }
         requires version { c < 2 ^ 62 }
-        requires widths { AllByRecursion (HaveWidth (length schema.now.kinds)) (all_steps records.now) }
+        requires widths { AllByRecursion (HaveWidth (length schema.now.kinds))
+            (all_steps records.now) }
         requires slots { AllByRecursion (IsSlot n (2 * c)) (all_steps records.now) }
         requires keys { HasSlotForKey schema.now.key n c (all_steps records.now) }
-        ensures index { IfOk result (λ index. IsIndex schema.now.key (all_steps records.now) index) }
+        ensures index { IfOk result (λ index. IsIndex schema.now.key
+            (all_steps records.now) index) }
         ensures versions { IfOk result (λ index. index.versions ≡ n) }
         ensures committed { IfOk result (λ index. index.committed ≡ c) }
     {
@@ -89,11 +98,15 @@ impl SlotIndex {
         requires least { 2 ≤ self.versions }
         requires most { self.versions ≤ 4 }
         requires version { self.committed + 1 < 2 ^ 62 }
-        requires widths { AllByRecursion (HaveWidth (length schema.now.kinds)) (all_steps records.now) }
-        requires slots { AllByRecursion (IsSlot self.versions (2 * (self.committed + 1))) (all_steps records.now) }
-        requires keys { HasSlotForKey schema.now.key self.versions (self.committed + 1) (all_steps records.now) }
+        requires widths { AllByRecursion (HaveWidth (length schema.now.kinds))
+            (all_steps records.now) }
+        requires slots { AllByRecursion (IsSlot self.versions (2 * (self.committed + 1)))
+            (all_steps records.now) }
+        requires keys { HasSlotForKey schema.now.key self.versions (self.committed + 1)
+            (all_steps records.now) }
         requires index { IsIndex schema.now.key (all_steps records.now) self }
-        ensures index { IfOk result (λ index. IsIndex schema.now.key (all_steps records.now) index) }
+        ensures index { IfOk result (λ index. IsIndex schema.now.key
+            (all_steps records.now) index) }
         ensures versions { IfOk result (λ index. index.versions ≡ self.versions) }
         ensures committed { IfOk result (λ index. index.committed ≡ self.committed + 1) }
     {
@@ -149,7 +162,9 @@ impl SlotIndex {
         requires least { 2 ≤ self.old.versions }
         requires version { self.old.committed < 2 ^ 62 }
         requires widths { HaveWidth (length schema.now.kinds) (steps_or_none slot.now) }
-        ensures { OnOk result (IsKeyVisited schema.now.key (row_among self.old.versions (steps_or_none slot.now) (versions_in_use self.old.versions self.old.committed)) i self.old self.new) }
+        ensures { OnOk result (IsKeyVisited schema.now.key
+            (row_among self.old.versions (steps_or_none slot.now)
+            (versions_in_use self.old.versions self.old.committed)) i self.old self.new) }
     {
         match row_in_use(slot, self.versions, self.committed) {
             Some(row) => {
@@ -181,10 +196,14 @@ impl SlotIndex {
         requires least { 2 ≤ self.old.versions }
         requires most { self.old.versions ≤ 4 }
         requires version { self.old.committed < 2 ^ 62 }
-        requires widths { AllByRecursion (HaveWidth (length schema.now.kinds)) (all_steps records.now) }
-        requires slots { AllByRecursion (IsSlot self.old.versions (2 * self.old.committed)) (all_steps records.now) }
-        requires keys { HasSlotForKey schema.now.key self.old.versions self.old.committed (all_steps records.now) }
-        ensures { OnOk result (AreVisited schema.now.key (all_steps records.now) (i ∷ []) self.old self.new) }
+        requires widths { AllByRecursion (HaveWidth (length schema.now.kinds))
+            (all_steps records.now) }
+        requires slots { AllByRecursion (IsSlot self.old.versions (2 * self.old.committed))
+            (all_steps records.now) }
+        requires keys { HasSlotForKey schema.now.key self.old.versions self.old.committed
+            (all_steps records.now) }
+        ensures { OnOk result (AreVisited schema.now.key (all_steps records.now)
+            (i ∷ []) self.old self.new) }
     {
         if i < records.len() {
             self.visit_key(schema, &records[i], i)?;
@@ -203,10 +222,14 @@ impl SlotIndex {
         requires least { 2 ≤ self.old.versions }
         requires most { self.old.versions ≤ 4 }
         requires version { self.old.committed < 2 ^ 62 }
-        requires widths { AllByRecursion (HaveWidth (length schema.now.kinds)) (all_steps records.now) }
-        requires slots { AllByRecursion (IsSlot self.old.versions (2 * self.old.committed)) (all_steps records.now) }
-        requires keys { HasSlotForKey schema.now.key self.old.versions self.old.committed (all_steps records.now) }
-        ensures { OnOk result (AreVisited schema.now.key (all_steps records.now) places.now self.old self.new) }
+        requires widths { AllByRecursion (HaveWidth (length schema.now.kinds))
+            (all_steps records.now) }
+        requires slots { AllByRecursion (IsSlot self.old.versions (2 * self.old.committed))
+            (all_steps records.now) }
+        requires keys { HasSlotForKey schema.now.key self.old.versions self.old.committed
+            (all_steps records.now) }
+        ensures { OnOk result (AreVisited schema.now.key
+            (all_steps records.now) places.now self.old self.new) }
     {
         for place in places {
             self.visit(schema, records, *place)?;
@@ -226,7 +249,9 @@ impl SlotIndex {
         requires version { self.now.committed < 2 ^ 62 }
         requires key { key.now ≡ change_key schema.now.key change.now }
         requires index { IsIndex schema.now.key (all_steps records.now) self.now }
-        ensures { result ≡ position (shows_key schema.now.key self.now.versions (versions_in_use self.now.versions self.now.committed) (change_key schema.now.key change.now)) (all_steps records.now) }
+        ensures { result ≡ position (shows_key schema.now.key self.now.versions
+            (versions_in_use self.now.versions self.now.committed)
+            (change_key schema.now.key change.now)) (all_steps records.now) }
     {
         let slot = match self.slots.get(key) {
             Some(slot) => *slot,
@@ -248,8 +273,12 @@ impl SlotIndex {
 
     /// The first free slot.
     fn first_free(&self, records: &[Option<Vrec>]) -> Option<usize>
-        requires { (i : ℕ) → (is_among self.now.free i ≡ true) ↔ ((i < length (all_steps records.now)) × (is_free self.now.versions self.now.committed (slice_index_or (all_steps records.now) i []) ≡ true)) }
-        ensures { result ≡ position (is_free self.now.versions self.now.committed) (all_steps records.now) }
+        requires { (i : ℕ) → (is_among self.now.free i ≡ true)
+            ↔ ((i < length (all_steps records.now))
+            × (is_free self.now.versions self.now.committed
+            (slice_index_or (all_steps records.now) i []) ≡ true)) }
+        ensures { result ≡ position (is_free self.now.versions self.now.committed)
+            (all_steps records.now) }
     {
         match self.free.first() {
             Some(slot) => Some(*slot),
@@ -269,7 +298,8 @@ impl SlotIndex {
         requires version { self.now.committed < 2 ^ 62 }
         requires key { key.now ≡ change_key schema.now.key change.now }
         requires index { IsIndex schema.now.key (all_steps records.now) self.now }
-        ensures { result ≡ slot_for self.now.versions self.now.committed schema.now.key (change_key schema.now.key change.now) (all_steps records.now) }
+        ensures { result ≡ slot_for self.now.versions self.now.committed schema.now.key
+            (change_key schema.now.key change.now) (all_steps records.now) }
     {
         match self.known_slot(schema, records, change, key) {
             Some(slot) => Some(slot),
@@ -289,7 +319,9 @@ impl SlotIndex {
         requires version { self.now.committed < 2 ^ 62 }
         requires keys { keys.now ≡ map (change_key schema.now.key) changes.now }
         requires index { IsIndex schema.now.key (all_steps records.now) self.now }
-        ensures enough { IsTrue result ↔ (length (unknown_keys schema.now.key self.now.versions self.now.committed (all_steps records.now) keys.now) ≤ length self.now.free) }
+        ensures enough { IsTrue result ↔ (length
+            (unknown_keys schema.now.key self.now.versions self.now.committed
+            (all_steps records.now) keys.now) ≤ length self.now.free) }
         ensures rising { IsStrictlySortedBy nat_cmp self.now.free }
     {
         let mut unknown = 0;

@@ -3,7 +3,7 @@ ghost use Rattle.std.specs.Prelude.{◌≡◌, ◌<◌, ◌≤◌, ◌+◌, ◌^
 ghost use Rattle.std.specs.List.{position, list_any, list_all};
 ghost use Rattle.std.specs.Option.{option_copied};
 ghost use Rattle.whips_model.specs.Tuples.{has_key};
-ghost use Rattle.whips_flow.specs.Lists.{places_from};
+ghost use Rattle.whips_lists.specs.Lists.{places_from};
 ghost use Rattle.whips_net.specs.Made.{change_key};
 ghost use Rattle.whips_vnl.specs.Records.{leading_steps, shown_of, steps_or_none, visible};
 ghost use Rattle.whips_store.specs.Versions.{versions_in_use, row_seen, is_row_of, is_nothing, shows_key, is_older, is_free};
@@ -51,7 +51,8 @@ fn has_key_of(schema: &Schema, row: &Tuple, change: &Change) -> bool
 
 /// Whether the slot shows a row with the change's key at version `v`.
 fn shows_at(schema: &Schema, slot: &Option<Vrec>, change: &Change, n: u32, v: u64) -> bool
-    ensures { result ≡ is_row_of schema.now.key (change_key schema.now.key change.now) (visible n v (steps_or_none slot.now)) }
+    ensures { result ≡ is_row_of schema.now.key (change_key schema.now.key change.now)
+        (visible n v (steps_or_none slot.now)) }
 {
     match row_shown(slot, v, n) {
         Some(row) => has_key_of(schema, row, change),
@@ -69,7 +70,9 @@ fn shows_in(
     count: u64,
 ) -> bool
     requires { first + count ≤ 2 ^ 63 }
-    ensures { result ≡ list_any (λ v. is_row_of schema.now.key (change_key schema.now.key change.now) (visible n v (steps_or_none slot.now))) (places_from first count) }
+    ensures { result ≡ list_any (λ v. is_row_of schema.now.key
+        (change_key schema.now.key change.now) (visible n v (steps_or_none slot.now)))
+        (places_from first count) }
 {
     if count == 0 {
         return false;
@@ -99,7 +102,8 @@ fn nothing_in(slot: &Option<Vrec>, n: u32, first: u64, count: u64) -> bool
     requires most { n ≤ 4 }
     requires kept { length (steps_or_none slot.now) ≤ n }
     requires versions { first + count ≤ 2 ^ 63 }
-    ensures { result ≡ list_all (λ v. is_nothing (visible n v (steps_or_none slot.now))) (places_from first count) }
+    ensures { result ≡ list_all (λ v. is_nothing (visible n v (steps_or_none slot.now)))
+        (places_from first count) }
 {
     if count == 0 {
         return true;
@@ -152,7 +156,8 @@ pub(crate) fn shows_change(
 ) -> bool
     requires least { 2 ≤ n }
     requires version { c < 2 ^ 62 }
-    ensures { result ≡ shows_key schema.now.key n (versions_in_use n c) (change_key schema.now.key change.now) (steps_or_none slot.now) }
+    ensures { result ≡ shows_key schema.now.key n (versions_in_use n c)
+        (change_key schema.now.key change.now) (steps_or_none slot.now) }
 {
     let (first, count) = versions_used(n, c);
     shows_in(schema, slot, change, n, first, count)
@@ -161,7 +166,8 @@ pub(crate) fn shows_change(
 /// The row that the slot shows at the first of the `count` versions from `first` on at which it shows one.
 fn row_in(slot: &Option<Vrec>, n: u32, first: u64, count: u64) -> Option<&Tuple>
     requires { first + count ≤ 2 ^ 63 }
-    ensures { option_copied result ≡ row_among n (steps_or_none slot.now) (places_from first count) }
+    ensures { option_copied result ≡ row_among n (steps_or_none slot.now)
+        (places_from first count) }
 {
     if count == 0 {
         return None;
@@ -228,7 +234,8 @@ fn find_key(
 ) -> Option<usize>
     requires least { 2 ≤ n }
     requires version { c < 2 ^ 62 }
-    ensures { result ≡ position (shows_key schema.now.key n (versions_in_use n c) (change_key schema.now.key change.now)) (all_steps records.now) }
+    ensures { result ≡ position (shows_key schema.now.key n (versions_in_use n c)
+        (change_key schema.now.key change.now)) (all_steps records.now) }
 {
     for i in 0..records.len() {
         if shows_change(schema, &records[i], change, n, c) {
@@ -267,7 +274,8 @@ pub fn find_slot(
     requires most { n ≤ 4 }
     requires kept { AreKept n records.now }
     requires version { c < 2 ^ 62 }
-    ensures { result ≡ slot_for n c schema.now.key (change_key schema.now.key change.now) (all_steps records.now) }
+    ensures { result ≡ slot_for n c schema.now.key (change_key schema.now.key change.now)
+        (all_steps records.now) }
 {
     match find_key(schema, records, change, n, c) {
         Some(slot) => Some(slot),

@@ -6,7 +6,8 @@ use Rattle.whips_model.specs.Relation.{Table}
 use Rattle.whips_rel.specs.declared.update.Update.{Update}
 use Rattle.whips_rel.specs.declared.update.Update.TheVariants.{Insert, Delete}
 use Rattle.whips_rel.specs.Updates.{relation_of}
-use Rattle.whips_states.specs.States.{changed_at, with_row, without_row, updated, IsValid}
+use Rattle.whips_states.specs.States.{with_row, without_row, updated, IsValid}
+use Rattle.whips_lists.specs.Lists.{changed_at}
 
 set_changed : (f : Table → Table) (xs : List Table) (i : ℕ) (x : Table) → slice_get xs i ≡ Some x → set xs i (f x) ≡ changed_at i f xs
 set_changed f [] i x e = refl

@@ -8,7 +8,8 @@ use whips_rel::{InsertErr, NoMemory, Relation, Tuple, Update};
 /// Puts the tuple in. Its key isn't there.
 fn insert_row(relation: &mut Relation, tuple: &Tuple) -> Result<(), NoMemory>
     requires width { length tuple.now ≡ length relation.old.columns.kinds }
-    requires absent { row_at relation.old.columns.key (at_columns relation.old.columns.key tuple.now) relation.old.rows ≡ None }
+    requires absent { row_at relation.old.columns.key
+        (at_columns relation.old.columns.key tuple.now) relation.old.rows ≡ None }
     ensures { OnOk result (relation.new ≡ with_row tuple.now relation.old) }
 {
     match relation.insert(tuple.copy()?) {

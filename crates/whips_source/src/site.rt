@@ -1,6 +1,6 @@
 //! What every source promises.
 ghost use Rattle.std.specs.Prelude.{◌≡◌, true, length, Some, IfOk, OnOk, OnErr, IsErr};
-ghost use Rattle.whips_flow.specs.Lists.{front};
+ghost use Rattle.whips_lists.specs.Lists.{front};
 ghost use Rattle.whips_source.specs.Asks.{IsAskTo};
 ghost use Rattle.whips_source.specs.Sites.{SiteState, after_commit, after_answer, reply_of, IsStoppedAfter};
 

@@ -5,7 +5,8 @@ use Rattle.whips_model.specs.Relation.{Table, IsTable}
 use Rattle.whips_model.proofs.Keyed.{table_put, table_without}
 use Rattle.whips_rel.specs.declared.update.Update.{Update}
 use Rattle.whips_rel.specs.declared.update.Update.TheVariants.{Insert, Delete}
-use Rattle.whips_states.specs.States.{changed_at, with_row, without_row, updated, IsValid, AreSoundTables}
+use Rattle.whips_states.specs.States.{with_row, without_row, updated, IsValid, AreSoundTables}
+use Rattle.whips_lists.specs.Lists.{changed_at}
 use Rattle.whips_states.specs.Laws.{TablesStay}
 
 module _ (f : Table → Table) where

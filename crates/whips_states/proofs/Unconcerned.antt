@@ -8,16 +8,17 @@ use Rattle.std.proofs.lemmas.Bool.{and_parts, and_from, cases_eq}
 use Rattle.std.proofs.lemmas.List.Elements.{filter-append}
 use Rattle.whips_model.specs.declared.ColRef.{ColRef}
 use Rattle.whips_model.specs.declared.Cond.{Cond}
-use Rattle.whips_model.specs.Members.{Has}
+use Rattle.whips_lists.specs.Members.{Has}
 use Rattle.whips_model.specs.Tuples.{Codes, codes_cmp, at_columns, has_key, row_at, put_row, without_key, IsKeyed}
 use Rattle.whips_model.specs.Relation.{Table, rows_in, table_rows, value_of}
 use Rattle.whips_model.specs.Views.{ViewData, Choice, compares, is_equal, holds, meets, out_row, choices}
-use Rattle.whips_model.proofs.Members.{has_first, has_later}
+use Rattle.whips_lists.proofs.Members.{has_first, has_later}
 use Rattle.whips_choices.proofs.Parts.{all_weaker}
 use Rattle.whips_choices.proofs.Rows.{same_row, row_found, key_is, key_has, codes_equal}
 use Rattle.whips_rel.specs.declared.update.Update.{Update}
 use Rattle.whips_rel.specs.declared.update.Update.TheVariants.{Insert, Delete}
-use Rattle.whips_states.specs.States.{changed_at, with_row, without_row, updated, IsValid, AreSoundTables}
+use Rattle.whips_states.specs.States.{with_row, without_row, updated, IsValid, AreSoundTables}
+use Rattle.whips_lists.specs.Lists.{changed_at}
 use Rattle.whips_states.specs.Concerns.{meets_equality, meets_condition, meets_part, meets_from, concerns_update}
 use Rattle.whips_states.specs.Laws.{UnconcernedKeeps}
 use Rattle.whips_states.proofs.Changed.{changed_same, changed_other, sound_at, update_sound}

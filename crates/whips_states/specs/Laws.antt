@@ -1,7 +1,7 @@
 -- What transactions make of relations and of a view's value.
 use Rattle.std.specs.Prelude.{◌≡◌, ◌⊎◌, ◌↔◌, ℕ, ◌<◌, false, List, map, slice_get, Some, fold}
 use Rattle.whips_model.specs.Tuples.{Codes, at_columns, without_key, IsKeyed}
-use Rattle.whips_model.specs.Members.{Has}
+use Rattle.whips_lists.specs.Members.{Has}
 use Rattle.whips_model.specs.Relation.{Table, value_of}
 use Rattle.whips_model.specs.Views.{ViewData}
 use Rattle.whips_choices.specs.KeyedViews.{KeyedView, part_key}

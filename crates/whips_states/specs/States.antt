@@ -1,6 +1,7 @@
 -- Relations after updates, the state at a cut, and which updates are valid.
 use Rattle.std.specs.Prelude.{◌≡◌, ℕ, zero, suc, List, [], ◌∷◌, length, take, fold, slice_get, Some, None}
 use Rattle.std.specs.List.{AllByRecursion}
+use Rattle.whips_lists.specs.Lists.{changed_at}
 use Rattle.whips_model.specs.Tuples.{Codes, at_columns, row_at, put_row, without_key}
 use Rattle.whips_model.specs.Relation.{Table, IsTable}
 use Rattle.whips_rel.specs.declared.update.Update.{Update}
@@ -10,12 +11,6 @@ use Rattle.whips_rel.specs.Updates.{relation_of}
 -- The updates of one source transaction, in order.
 abbrev pub Updates : Type 0
 Updates = List Update
-
--- The list with f applied to its element number i.
-abbrev pub changed_at : {X : Type 0} → ℕ → (X → X) → List X → List X
-changed_at i f [] = []
-changed_at zero f (x ∷ xs) = f x ∷ xs
-changed_at (suc i) f (x ∷ xs) = x ∷ changed_at i f xs
 
 -- The relation with the tuple put where its key belongs.
 abbrev pub with_row : Codes → Table → Table

@@ -4,16 +4,16 @@ use Rattle.std.specs.List.{AllByRecursion}
 use Rattle.std.proofs.lemmas.Bool.{cases_eq}
 use Rattle.whips_model.specs.Tuples.{Codes}
 use Rattle.whips_model.specs.Views.{Choice, meets}
-use Rattle.whips_model.specs.Members.{Has}
+use Rattle.whips_lists.specs.Members.{Has, AreDistinct}
 use Rattle.whips_choices.specs.KeyedViews.{KeyedView, IsKeyedView, AreTables, IsChoiceOf}
 use Rattle.whips_choices.specs.Partials.{Partial, slot, seed, meets_on, extended}
-use Rattle.whips_model.proofs.Members.{has_first, has_later, has_none, has_same, has_before, has_mapped, all_from_has}
+use Rattle.whips_lists.proofs.Members.{has_first, has_later, has_none, has_same, has_before, has_mapped, all_from_has}
 use Rattle.whips_choices.proofs.Parts.{seed_width, seed_at, seed_other, seed_part}
 use Rattle.whips_choices.proofs.Rows.{same_row}
 use Rattle.whips_states.specs.Concerns.{meets_part}
 use Rattle.whips_trans_laws.proofs.Alone.{meets_is}
 use Rattle.whips_steps.specs.Steps.{asked_sources, step_parts, is_filled}
-use Rattle.whips_steps.specs.Answers.{projected, answers_from, whole_answer, unstruck, AreDistinct, IsWhole, DifferInKey, AllDifferInKey}
+use Rattle.whips_steps.specs.Answers.{projected, answers_from, whole_answer, unstruck, IsWhole, DifferInKey, AllDifferInKey}
 use Rattle.whips_steps.specs.Laws.{IsSeededRow, StepsFind, AnswersAreWhole}
 use Rattle.whips_steps.proofs.Fills.{IsFilling, IsFound, with_all, fill_all, found_all}
 use Rattle.whips_steps.proofs.Stepping.{parts_distinct, parts_free, filled_next, all_filled, filled_first}

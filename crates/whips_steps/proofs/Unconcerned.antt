@@ -9,14 +9,15 @@ use Rattle.std.proofs.lemmas.List.{length-set}
 use Rattle.whips_model.specs.Tuples.{Codes, codes_cmp, at_columns, has_key, put_row, without_key}
 use Rattle.whips_model.specs.Relation.{Table, rows_in, table_rows}
 use Rattle.whips_model.specs.Views.{ViewData}
-use Rattle.whips_model.specs.Members.{Has}
-use Rattle.whips_model.proofs.Members.{has_first, has_later}
+use Rattle.whips_lists.specs.Members.{Has}
+use Rattle.whips_lists.proofs.Members.{has_first, has_later}
 use Rattle.whips_choices.specs.Partials.{Partial, seed, meets_on, with_tuple, extended_at, extended}
 use Rattle.whips_choices.proofs.Rows.{codes_equal, key_is, same_row, row_found, row_missing}
 use Rattle.whips_choices.proofs.Parts.{slot_set_same, seed_below, below_meets, extended_from}
 use Rattle.whips_rel.specs.declared.update.Update.{Update}
 use Rattle.whips_rel.specs.declared.update.Update.TheVariants.{Insert, Delete}
-use Rattle.whips_states.specs.States.{changed_at, with_row, without_row, updated, IsValid, AreSoundTables}
+use Rattle.whips_states.specs.States.{with_row, without_row, updated, IsValid, AreSoundTables}
+use Rattle.whips_lists.specs.Lists.{changed_at}
 use Rattle.whips_states.specs.Concerns.{meets_part, meets_from, concerns_update}
 use Rattle.whips_states.proofs.Changed.{changed_same, changed_other, sound_at, update_sound}
 use Rattle.whips_trans_laws.proofs.Alone.{meets_is}

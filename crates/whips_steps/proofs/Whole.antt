@@ -4,17 +4,16 @@ use Rattle.std.specs.List.{list_any}
 use Rattle.std.proofs.lemmas.List.{length-map, same_lists, get_or_default}
 use Rattle.whips_model.specs.Tuples.{Codes, at_columns}
 use Rattle.whips_model.specs.Views.{Choice, meets, out_row, rows_of}
-use Rattle.whips_model.specs.Members.{Has}
+use Rattle.whips_lists.specs.Members.{Has}
 use Rattle.whips_choices.specs.KeyedViews.{KeyedView, IsKeyedView, AreTables, IsChoiceOf}
 use Rattle.whips_choices.specs.Partials.{Partial, slot, IsPartOf}
-use Rattle.whips_model.proofs.Members.{has_none, has_same, has_passing, has_passed, has_mapped, has_before}
+use Rattle.whips_lists.proofs.Members.{has_none, has_same, has_passing, has_passed, has_mapped, has_before, any_from_has, none_from_has}
 use Rattle.whips_choices.proofs.Rows.{key_is, key_has, puts_only, puts_all}
 use Rattle.whips_choices.proofs.Values.{value_row, one_row}
 use Rattle.whips_choices.proofs.Parts.{slot_in_range, below_meets, meets_whole, slot_all}
 use Rattle.whips_steps.specs.Answers.{tuple_in, row_of, projected, is_key, has_key_at, unstruck}
 use Rattle.whips_steps.specs.Laws.{IsSeededRow}
 use Rattle.whips_steps.proofs.Fills.{IsFilling}
-use Rattle.whips_steps.proofs.Stepping.{any_from_has, none_from_has}
 
 module _ (v : KeyedView) (is : IsKeyedView v) (tables : List (List Codes)) (good : AreTables v tables) (seeds : List Codes) (origin : ℕ) (pending : List (ℕ × Codes))
     (f : ℕ → Bool) (ps : List Partial) (filling : IsFilling v tables seeds origin pending f ps) (full : (j : ℕ) → j < length v.keys → f j ≡ true) where

@@ -4,12 +4,12 @@ use Rattle.std.specs.List.{AllByRecursion}
 use Rattle.whips_model.specs.Tuples.{Codes}
 use Rattle.whips_model.specs.Relation.{Table, table_rows}
 use Rattle.whips_model.specs.Views.{ViewData, Choice}
-use Rattle.whips_model.specs.Members.{Has}
+use Rattle.whips_lists.specs.Members.{Has, AreDistinct}
 use Rattle.whips_choices.specs.KeyedViews.{KeyedView, IsKeyedView, AreTables, IsRowOf}
 use Rattle.whips_choices.specs.Partials.{Partial}
 use Rattle.whips_states.specs.States.{Updates, applied, AreValid, AreSoundTables}
 use Rattle.whips_states.specs.Concerns.{meets_part, concerns}
-use Rattle.whips_steps.specs.Answers.{step_answer, whole_answer, projected, AreWide, IsWhole, AllDifferInKey, AreDistinct}
+use Rattle.whips_steps.specs.Answers.{step_answer, whole_answer, projected, AreWide, IsWhole, AllDifferInKey}
 
 -- The row is one of the view's value, and its tuple at the origin is a seed.
 pub record IsSeededRow (v : KeyedView) (tables : List (List Codes)) (origin : ℕ) (seeds : List Codes) (r : Codes) : Type 0 where

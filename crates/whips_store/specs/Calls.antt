@@ -2,6 +2,7 @@
 use Rattle.std.specs.Prelude.{◌≡◌, ℕ, suc, ◌/◌, nat_lt, true, List, [], ◌∷◌, ◌++◌, length, map, slice_index_or, set, Option, Some, None, if◌then◌else◌}
 use Rattle.std.specs.Option.{option_map}
 use Rattle.std.specs.List.{position, AllByRecursion}
+use Rattle.whips_model.specs.declared.Kind.{Kind}
 use Rattle.whips_model.specs.Tuples.{Codes}
 use Rattle.whips_rel.specs.declared.update.Change.{Change}
 use Rattle.whips_changes.specs.Changes.{net_changes, need}
@@ -16,10 +17,14 @@ use Rattle.whips_store.specs.Stores.{ViewState, StoreState, ChangeLists}
 
 -- ---- a transaction begins
 
+-- No number of these rows is above 999,999,999,999.
+abbrev pub AreRowsWithin : List Kind → List Codes → Type 0
+AreRowsWithin kinds rows = AllByRecursion (λ t. has_numbers_within kinds t ≡ true) rows
+
 -- The changes are the net ones from the current rows to those afterwards, of which no number is above 999,999,999,999.
 pub record AreNetChanges (v : ViewState) (after : List Codes) (changes : List Change) : Type 0 where
   pub net : changes ≡ net_changes v.columns.key v.current after
-  pub numbers : AllByRecursion (λ t. has_numbers_within v.columns.kinds t ≡ true) after
+  pub numbers : AreRowsWithin v.columns.kinds after
 
 -- For each view there are its rows afterwards and their net changes.
 abbrev pub AreNet : List ViewState → ChangeLists → Type 0

@@ -8,7 +8,7 @@ use Rattle.whips_vnl.specs.Records.{seen_row, visible, is_removed, IsWithinPhase
 use Rattle.whips_vnl.specs.declared.record.Vstep.{Vstep}
 use Rattle.whips_store.specs.Versions.{rows_at, row_seen, is_older}
 use Rattle.whips_store.specs.Stores.{ViewState, StoreState}
-use Rattle.whips_store.specs.Calls.{slots_needed}
+use Rattle.whips_store.specs.Calls.{slots_needed, AreRowsWithin}
 
 -- The steps of a slot's record: versions fall and aren't above the one that is written, a step has a row exactly where it isn't a removal, and at most n are kept; nVNL 1997. A blank slot has none.
 pub record IsSlot (n phase : ℕ) (steps : List Vstep) : Type 0 where
@@ -35,7 +35,7 @@ pub record IsWritten (columns : List ℕ) (n c : ℕ) (new : List Codes) (steps 
 abbrev pub HaveWidth : ℕ → List Vstep → Type 0
 HaveWidth width steps = AllByRecursion (λ s. (t : Codes) → s.row ≡ Some t → length t ≡ width) steps
 
--- A view in a store: its slots show the current rows at the committed version; the changes that are left take what they show at the next one to the new rows; there are slots for all of these; and no change is left where no maintenance is active.
+-- A view in a store: its slots show the current rows at the committed version; the changes that are left take what they show at the next one to the new rows; there are slots for all of these; no number of these rows is above the greatest; and no change is left where no maintenance is active.
 pub record IsSoundView (n phase : ℕ) (v : ViewState) : Type 0 where
   pub current : IsTable v.columns v.current
   pub new : IsTable v.columns v.next
@@ -46,6 +46,8 @@ pub record IsSoundView (n phase : ℕ) (v : ViewState) : Type 0 where
   pub committed : union_rows v.columns.key (rows_at n (phase / 2) v.records ∷ []) ≡ v.current
   pub left : net_changes v.columns.key (union_rows v.columns.key (rows_at n (suc (phase / 2)) v.records ∷ [])) v.next ≡ v.left
   pub room : slots_needed n (phase / 2) v v.next ≤ length v.records
+  pub numbers : AreRowsWithin v.columns.kinds v.current
+  pub new_numbers : AreRowsWithin v.columns.kinds v.next
   pub quiet : phase % 2 ≡ 0 → v.left ≡ []
 
 -- What a store keeps.

@@ -2,7 +2,7 @@
 use Rattle.std.specs.Prelude.{ℕ, suc, ◌-◌, ◌&&◌, nat_le, min, Bool, true, false, List, Option, Some, None}
 use Rattle.std.specs.List.{list_any, list_all, filter_map}
 use Rattle.whips_model.specs.Tuples.{Codes, has_key}
-use Rattle.whips_flow.specs.Lists.{places_from}
+use Rattle.whips_lists.specs.Lists.{places_from}
 use Rattle.whips_vnl.specs.Records.{Seen, seen_row, seen_nothing, seen_past, visible}
 use Rattle.whips_vnl.specs.declared.record.Vstep.{Vstep}
 

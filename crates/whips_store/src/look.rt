@@ -11,8 +11,8 @@ use whips_vnl::Shown;
 
 /// A reader's side of a store.
 ///
-/// Its ghost members are `base`, which no call changes and which has the slots and the columns of
-/// each view, and `log`, to which calls only append. `phase_says` and `row_says` read a log from a
+/// Its ghost members are `base`, which no call changes and which has the number of versions that
+/// stay readable and the slots and the columns of each view, and `log`, to which calls only append. `phase_says` and `row_says` read a log from a
 /// place on: the answer of a call, and the place after its entries.
 pub trait Look {
     /// What the calls read.
@@ -21,6 +21,8 @@ pub trait Look {
     ghost base: { Self → Self.Base };
 
     ghost log: { Self → Log };
+
+    ghost versions: { Self.Base → ℕ };
 
     ghost slots: { Self.Base → ℕ → ℕ };
 
@@ -42,7 +44,9 @@ pub trait Look {
         requires columns { into.old.columns ≡ columns (base self.old) x }
         requires room { length into.old.rows < into.old.room }
         ensures base { base self.new ≡ base self.old }
-        ensures said { (seen : Seen) × (result ≡ shown_of seen) × (into.new ≡ with_seen seen into.old) × RowSaid row_says (base self.old) (log self.old) (log self.new) x i v seen };
+        ensures said { (seen : Seen) × (result ≡ shown_of seen)
+            × (into.new ≡ with_seen seen into.old) × RowSaid row_says (base self.old) (log self.old)
+            (log self.new) x i v seen };
 
     ghost phase_stays: { PhaseStays phase_says };
 
@@ -74,6 +78,8 @@ impl<'a, S: Store> Look for PlainLook<'a, S> {
     ghost base = { λ l. l.store.now };
 
     ghost log = { λ l. [] };
+
+    ghost versions = { λ s. (S.state s).versions };
 
     ghost slots = { λ s x. length (view_in (S.state s) x).records };
 

@@ -25,7 +25,8 @@ fn number(word: &String, least: u32) -> Option<u32>
 
 /// The size that the two words say.
 pub fn read_size(words: &[String]) -> Option<Size>
-    ensures { IfSome result (λ size. (1 ≤ size.rows) × (size.rows ≤ MOST) × (size.transactions ≤ MOST)) }
+    ensures { IfSome result (λ size. (1 ≤ size.rows) × (size.rows ≤ MOST)
+        × (size.transactions ≤ MOST)) }
 {
     match words {
         [rows, transactions] => Some(Size {

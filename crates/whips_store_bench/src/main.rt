@@ -1,6 +1,6 @@
 //! The program `whips_store_bench`: transactions on a plain store of one view, for measuring.
 //!
-//! Its two words are the number of rows at the start and the number of transactions. It prints what
+//! Its two words are the number of slots, all but one of which have a row, and the number of transactions. It prints what
 //! it did.
 #![tactic(auto)]
 

@@ -1,18 +1,15 @@
-//! Transactions on a store of one view.
+//! Transactions on a store of one view of two relations.
 //!
-//! Each replaces two rows. The even ones, from 0 on, also take out the row with the least key, and
-//! the others put a row in behind the one with the greatest key: so as many slots as rows at the
-//! start suffice, for two versions. The parts of a transaction aren't inlined, so that a profile
-//! tells them apart.
-ghost use Rattle.std.specs.Prelude.{◌≡◌, ◌+◌, ◌%◌, length, IfOk, OnOk};
-ghost use Rattle.whips_store.specs.Stores.{view_in};
-ghost use Rattle.std.specs.List.{list_all};
+//! The rows' keys are all the numbers below the number of slots but one. Each transaction takes out a row by its key in
+//! the second relation, puts in the one that the transaction before took out, and gives a third row another code. The
+//! parts of a transaction aren't inlined, so that a profile tells them apart.
+ghost use Rattle.std.specs.Prelude.{◌≡◌, ◌<◌, length, IfOk};
 ghost use Rattle.whips_changes.specs.Changes.{net_changes};
 ghost use Rattle.whips_store.specs.Calls.{AreNet};
-ghost use Rattle.whips_store_bench.specs.Numbers.{are_within};
+ghost use Rattle.whips_store.specs.Stores.{view_in};
 ghost use Rattle.whips_store_bench.specs.Later.{IsLater};
 
-use crate::rows::{are_rows_within, key_at, put_new, take};
+use crate::rows::{are_changes_within, put_new, replace, take_second};
 use crate::start::one;
 use crate::stop::Stop;
 use std::alloc::Global;
@@ -23,76 +20,48 @@ use whips_store::{Changes, Store};
 /// A phase that no run reaches.
 const LAST_PHASE: u64 = 1 << 32;
 
-/// The least key that no row has at the start.
-const FIRST_NEW: u64 = 4_096;
+/// A number that moves the keys about.
+const STRIDE: u64 = 1_009;
 
-/// A number that moves the places of the replaced rows about.
-const STRIDE: usize = 1_009;
-
-/// Gives the row at place `i` this code.
-fn replace(alloc: Global, draft: &mut Draft, i: usize, code: u64) -> Result<(), Stop>
-    ensures { IsLater draft.old draft.new }
+/// The key that no row has after transaction `t`.
+fn key_taken(t: u32, slots: u64) -> u64
+    requires { 0 < slots }
 {
-    let Some(key) = key_at(draft.rows(), i) else {
-        return Err(Stop::Refused);
-    };
-    take(alloc, draft, key)?;
-    put_new(alloc, draft, key, code)
+    (u64::from(t) * STRIDE) % slots
 }
 
-/// Gives two of the rows behind the first, where there are two, the code of transaction `t`.
-fn replace_two(alloc: Global, draft: &mut Draft, t: u32) -> Result<(), Stop>
-    ensures { IsLater draft.old draft.new }
+/// The key that no row has before transaction `t`.
+fn key_missing(t: u32, slots: u64) -> u64
+    requires { 0 < slots }
 {
-    if draft.rows().len() < 2 {
-        return Ok(());
+    if t == 0 {
+        return slots - 1;
     }
-    let others = draft.rows().len() - 1;
-    let code = u64::from(t) + 1;
-    let first = (t as usize * STRIDE) % others;
-    let second = (first + others / 2) % others;
-    replace(alloc, draft, 1 + first, code)?;
-    replace(alloc, draft, 1 + second, code)
-}
-
-/// Takes out the first row.
-fn take_first(alloc: Global, draft: &mut Draft) -> Result<(), Stop>
-    ensures { IsLater draft.old draft.new }
-{
-    let Some(key) = key_at(draft.rows(), 0) else {
-        return Err(Stop::Refused);
-    };
-    take(alloc, draft, key)
+    key_taken(t - 1, slots)
 }
 
 /// Makes the changes of transaction `t`.
 fn change_rows(alloc: Global, draft: &mut Draft, t: u32) -> Result<(), Stop>
     ensures { IsLater draft.old draft.new }
 {
-    replace_two(alloc, draft, t)?;
-    if t % 2 == 0 {
-        return take_first(alloc, draft);
-    }
-    put_new(alloc, draft, FIRST_NEW + u64::from(t), u64::from(t) + 1)
+    let slots = draft.rows().len() as u64 + 1;
+    let taken = key_taken(t, slots);
+    let code = u64::from(t) + 1;
+    take_second(alloc, draft, taken)?;
+    put_new(alloc, draft, key_missing(t, slots), code)?;
+    replace(alloc, draft, (taken + slots / 3) % slots, code)
 }
 
 /// The rows after transaction `t`, and the net changes that lead to them.
 #[inline(never)]
 fn rows_after(alloc: Global, before: &Rows, t: u32) -> Result<(Rows, Vec<Change>), Stop>
     ensures columns { IfOk result (λ p. p.0.columns ≡ before.now.columns) }
-    ensures net { IfOk result (λ p. p.1.items ≡ net_changes before.now.columns.key before.now.rows p.0.rows) }
+    ensures net { IfOk result (λ p. p.1.items
+        ≡ net_changes before.now.columns.key before.now.rows p.0.rows) }
 {
     let mut draft = Draft::of(alloc, before)?;
     change_rows(alloc, &mut draft, t)?;
     Ok(draft.finish(alloc)?)
-}
-
-/// Whether no number of the rows is above the greatest.
-#[inline(never)]
-fn are_fit(rows: &Rows) -> bool
-    ensures { result ≡ list_all are_within rows.now.rows }
-{
-    are_rows_within(rows)
 }
 
 /// The changes that take the one view of the store to these rows.
@@ -105,13 +74,15 @@ fn changes_to<S: Store>(
 ) -> Result<Changes, Stop>
     requires one { length (S.state store.now).views ≡ 1 }
     requires columns { after.columns ≡ (view_in (S.state store.now) 0).columns }
-    requires net { changes.items ≡ net_changes (view_in (S.state store.now) 0).columns.key (view_in (S.state store.now) 0).current after.rows }
+    requires net { changes.items ≡ net_changes (view_in (S.state store.now) 0).columns.key
+        (view_in (S.state store.now) 0).current after.rows }
     ensures { IfOk result (λ c. AreNet (S.state store.now).views c) }
 {
-    if !are_fit(&after) {
+    if !are_changes_within(&changes) {
         return Err(Stop::Refused);
     }
-    let _current = store.current(0);
+    let _sound = store.phase();
+    let _after = after.schema();
     Ok(Changes {
         views: one(alloc, (after, changes))?,
     })

@@ -6,10 +6,10 @@ use Rattle.std.specs.declared.cmp.Ordering.{Ordering}
 use Rattle.std.specs.declared.cmp.Ordering.TheVariants.{Less, Equal, Greater}
 use Rattle.std.proofs.lemmas.Bool.{cases_lt}
 use Rattle.std.proofs.lemmas.List.{get_or-set_same, get_or-set_other, length-set}
-use Rattle.whips_model.specs.Members.{Has}
+use Rattle.whips_lists.specs.Members.{Has}
 use Rattle.whips_model.specs.Tuples.{Codes, codes_cmp, at_columns, has_key, row_at}
 use Rattle.whips_model.proofs.Keyed.{all_at}
-use Rattle.whips_model.proofs.Members.{has_first, has_later}
+use Rattle.whips_lists.proofs.Members.{has_first, has_later}
 use Rattle.whips_choices.proofs.Rows.{codes_equal, codes_tied, key_is}
 use Rattle.whips_trans_laws.proofs.ByKey.{at_put, same_by_key}
 use Rattle.whips_rel.specs.declared.update.Change.{Change}
@@ -33,7 +33,7 @@ same_place zero (suc j) = inr (λ e. omega (arith, e))
 same_place (suc i) zero = inr (λ e. omega (arith, e))
 same_place (suc i) (suc j) = elim (same_place i j) [ inl e ↦ inl (ap suc e) | inr ne ↦ inr (λ e. ne (omega (arith, e))) ]
 
-map_same : {A B : Type 0} (f g : A → B) (xs : List A) → ((x : A) → Has x xs → f x ≡ g x) → map f xs ≡ map g xs
+pub map_same : {A B : Type 0} (f g : A → B) (xs : List A) → ((x : A) → Has x xs → f x ≡ g x) → map f xs ≡ map g xs
 map_same f g [] h = refl
 map_same f g (x ∷ xs) h = ap (λ y. y ∷ map f xs) (h x (has_first x xs)) ∙ ap (λ l. g x ∷ l) (map_same f g xs (λ y k. h y (has_later y x xs k)))
 

@@ -4,10 +4,10 @@ use Rattle.std.specs.Prelude.{reverse, replicate}
 use Rattle.std.specs.List.{All, AllByRecursion, cons_option, filter_map}
 use Rattle.std.proofs.lemmas.Bool.{le-leb, lt-ltb}
 use Rattle.std.proofs.lemmas.Cmp.{nat_list_cmp_total, tied_itself}
-use Rattle.whips_model.specs.Members.{Has}
+use Rattle.whips_lists.specs.Members.{Has}
 use Rattle.whips_model.specs.Tuples.{Codes, Columns, at_columns, row_at, IsKeyed}
 use Rattle.whips_model.specs.Relation.{IsTable}
-use Rattle.whips_model.proofs.Members.{has_either, has_cases, has_none, has_before}
+use Rattle.whips_lists.proofs.Members.{has_either, has_cases, has_none, has_before}
 use Rattle.whips_trans_laws.proofs.ByKey.{row_of_key}
 use Rattle.whips_changes.specs.Changes.{union_rows, net_changes}
 use Rattle.whips_net.proofs.Merge.{puts, puts_all, net_of, net_is, both_first, tied_self}
@@ -116,7 +116,7 @@ module _ (n : ℕ) (two : 2 ≤ n) where
       ]
 
 pub first_is_sound : FirstIsSound
-first_is_sound n columns rows spare two table = record {
+first_is_sound n columns rows spare two table within = record {
   current = table;
   new = table;
   records = first_slots n two columns rows spare;
@@ -132,5 +132,7 @@ first_is_sound n columns rows spare two table = record {
       let values = reverse (map (λ w. rows_at n w (first_records rows spare)) (versions_in_use n 0) ++ rows ∷ []) in
       let fewer = not_more columns.key (union_rows columns.key values) rows (keyed_all columns.key values [] tt) (among n two columns.key rows spare table.keyed) in
       omega (arith, fewer, enough n two rows spare);
+  numbers = within;
+  new_numbers = within;
   quiet = λ e. refl;
 }

@@ -4,9 +4,9 @@ use Rattle.std.specs.Prelude.{reverse, set, ◌||◌, ◌&&◌}
 use Rattle.std.specs.List.{filter_map, cons_option, list_any, list_all, position, position_or_len, AllByRecursion}
 use Rattle.std.proofs.lemmas.List.{reverse-append}
 use Rattle.std.proofs.lemmas.Bool.{lt-ltb, cases_lt}
-use Rattle.whips_flow.specs.Lists.{places_from}
-use Rattle.whips_model.specs.Members.{Has}
-use Rattle.whips_model.proofs.Members.{has_first, has_later, has_none, has_cases, has_left, has_right, has_either}
+use Rattle.whips_lists.specs.Lists.{places_from}
+use Rattle.whips_lists.specs.Members.{Has}
+use Rattle.whips_lists.proofs.Members.{has_first, has_later, has_none, has_cases, has_left, has_right, has_either}
 
 module _ {X : Type 0} (p : X → Bool) where
   pub any_found : (xs : List X) → list_any p xs ≡ true → (x : X) × Has x xs × (p x ≡ true)

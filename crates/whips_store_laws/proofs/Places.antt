@@ -5,9 +5,9 @@ use Rattle.std.specs.List.{position, list_all, AllByRecursion}
 use Rattle.std.specs.Ordering.{is_eq}
 use Rattle.std.proofs.lemmas.Bool.{cases_lt}
 use Rattle.std.proofs.lemmas.List.Quantifiers.{position-Some}
-use Rattle.whips_model.specs.Members.{Has}
+use Rattle.whips_lists.specs.Members.{Has}
 use Rattle.whips_model.specs.Tuples.{Codes, codes_cmp, at_columns, has_key, row_at, without_key, IsKeyed}
-use Rattle.whips_model.proofs.Members.{has_mapped, has_left, has_right, has_first}
+use Rattle.whips_lists.proofs.Members.{has_mapped, has_left, has_right, has_first}
 use Rattle.whips_model.proofs.Keyed.{all_at}
 use Rattle.whips_choices.proofs.Rows.{codes_tied, key_is, row_found}
 use Rattle.whips_rel.specs.declared.update.Change.{Change}

@@ -5,11 +5,11 @@ use Rattle.std.proofs.lemmas.Bool.{lt-leb, le-leb, leb-true, cases_lt}
 use Rattle.std.proofs.lemmas.List.{get_or-take, length-take-le, take_all}
 use Rattle.std.proofs.lemmas.List.Elements.{All-take}
 use Rattle.whips_model.specs.Tuples.{Codes}
-use Rattle.whips_model.proofs.Members.{has_at}
+use Rattle.whips_lists.proofs.Members.{has_at}
 use Rattle.whips_rel.specs.declared.update.Change.{Change}
 use Rattle.whips_rel.specs.declared.update.Change.TheVariants.{Add, Replace, Remove}
 use Rattle.whips_vnl.specs.Records.{Seen, seen_row, seen_nothing, seen_past, visible, step_of, steps_after, seen_after, is_removed, IsBelow}
-use Rattle.whips_vnl.specs.Staleness.{IsStale}
+use Rattle.whips_flow.specs.Staleness.{IsStale}
 use Rattle.whips_vnl.specs.declared.record.Vstep.{Vstep}
 use Rattle.whips_vnl.proofs.Kept.{live_kept, earlier_same}
 use Rattle.whips_store.specs.Versions.{row_seen, is_nothing, is_older}

@@ -2,10 +2,10 @@
 use Rattle.std.proofs.Common.{◌≡◌, ◌≢◌, ◌⊎◌, inl, inr, ℕ, zero, suc, ◌<◌, ◌≤◌, Bool, true, false, cond, not, List, [], ◌∷◌, length, Option, Some, None, is_some, refl, sym, ap, subst, ◌∙◌, arith}
 use Rattle.std.specs.Prelude.{fold}
 use Rattle.std.specs.List.{filter}
-use Rattle.whips_model.specs.Members.{Has}
+use Rattle.whips_lists.specs.Members.{Has}
 use Rattle.whips_model.specs.Tuples.{Codes, at_columns, has_key, row_at, put_row, without_key, IsKeyed}
 use Rattle.whips_model.proofs.Keyed.{keyed_put}
-use Rattle.whips_model.proofs.Members.{has_first, has_later, has_none, has_cases}
+use Rattle.whips_lists.proofs.Members.{has_first, has_later, has_none, has_cases}
 use Rattle.whips_choices.proofs.Rows.{codes_tied, key_is}
 use Rattle.whips_trans_laws.proofs.ByKey.{at_put}
 use Rattle.whips_net.proofs.Merge.{puts}

@@ -5,11 +5,11 @@ use Rattle.std.specs.List.{cons_option, AllByRecursion}
 use Rattle.std.specs.declared.cmp.Ordering.TheVariants.{Less, Equal}
 use Rattle.std.proofs.lemmas.Bool.{cases_lt, le-leb}
 use Rattle.std.proofs.lemmas.List.{length-set}
-use Rattle.whips_model.specs.Members.{Has}
+use Rattle.whips_lists.specs.Members.{Has}
 use Rattle.whips_model.specs.Tuples.{Codes, codes_cmp, at_columns, row_at, IsKeyed}
 use Rattle.whips_model.specs.Relation.{IsTable}
 use Rattle.whips_model.proofs.Keyed.{all_at, keyed_at}
-use Rattle.whips_model.proofs.Members.{has_at, has_either, has_cases, has_none, has_before, all_has}
+use Rattle.whips_lists.proofs.Members.{has_at, has_either, has_cases, has_none, has_before, all_has}
 use Rattle.whips_choices.proofs.Rows.{codes_tied, row_found}
 use Rattle.whips_trans_laws.proofs.ByKey.{row_of_key}
 use Rattle.whips_rel.specs.declared.update.Change.{Change}
@@ -92,6 +92,8 @@ view_changed n phase v change others two h e =
           left = ap (λ rows. net_changes v.columns.key rows v.next) (next_after v.columns.key n (phase / 2) phase v.records v.next slots change i s net.later next)
               ∙ go v.columns.key (puts v.columns.key [] (rows_at n (suc (phase / 2)) v.records)) v.next change others (keyed_puts v.columns.key (rows_at n (suc (phase / 2)) v.records) [] tt) h.new.keyed (h.left ∙ e);
           room = let r = h.room in omega (arith, need_stays v.columns.key n (phase / 2) phase v.records v.next slots change i s net.later next, length-set v.records i (steps_after n (suc (phase / 2)) change (at v.records i)));
+          numbers = h.numbers;
+          new_numbers = h.new_numbers;
           quiet = λ even. absurd (odd even);
         }
 
@@ -115,7 +117,7 @@ pub none_written : (cols : List ℕ) (n phase c : ℕ) (new : List Codes) (recor
 none_written cols n phase c new records le h = all_mapped (IsSlot n phase) (λ steps. is_older c steps ≡ false → IsWritten cols n c new steps) records
     (λ steps s f. absurd (let t = within_older phase c steps s.within le in cc)) h
 
-next_same : (n phase c : ℕ) (records : List (List Vstep)) → (phase + 1) / 2 ≤ c → AllByRecursion (IsSlot n phase) records → rows_at n (suc c) records ≡ rows_at n c records
+pub next_same : (n phase c : ℕ) (records : List (List Vstep)) → (phase + 1) / 2 ≤ c → AllByRecursion (IsSlot n phase) records → rows_at n (suc c) records ≡ rows_at n c records
 next_same n phase c [] le h = refl
 next_same n phase c (steps ∷ records) le h =
     ap (λ s. cons_option (row_seen s) (rows_at n (suc c) records)) (below_same n c steps (older_below c steps (within_older phase c steps h.0.within le)))
@@ -139,6 +141,8 @@ view_begun n phase v after changes even h table net room =
       left = subst (λ c. net_changes v.columns.key (puts v.columns.key [] (rows_at n (suc c) v.records)) after ≡ changes) same
           (ap (λ rows. net_changes v.columns.key rows after) (ap (λ rows. puts v.columns.key [] rows) (next_same n phase (phase / 2) v.records low h.records) ∙ h.committed) ∙ sym net.net);
       room = subst (λ c. slots_needed n c v after ≤ length v.records) same room;
+      numbers = h.numbers;
+      new_numbers = net.numbers;
       quiet = λ e. absurd (omega arith);
     }
 
@@ -237,6 +241,8 @@ module _ (n phase : ℕ) (v : ViewState) (two : 2 ≤ n) (odd : phase % 2 ≡ 1)
         left = subst (λ c. net_changes v.columns.key (puts v.columns.key [] (rows_at n (suc c) v.records)) v.next ≡ v.left) half
             (ap (λ rows. net_changes v.columns.key (puts v.columns.key [] rows) v.next) (next_same n phase (suc (phase / 2)) v.records (omega arith) h.records) ∙ h.left);
         room = subst (λ c. slots_needed n c v v.next ≤ length v.records) half needed_still;
+        numbers = h.new_numbers;
+        new_numbers = h.new_numbers;
         quiet = λ e. none;
       }
 

@@ -9,7 +9,7 @@ use Rattle.whips_model.specs.Relation.{IsTable}
 use Rattle.whips_model.proofs.Keyed.{all_at}
 use Rattle.whips_rel.specs.declared.update.Change.{Change}
 use Rattle.whips_vnl.specs.Records.{visible, steps_after}
-use Rattle.whips_vnl.specs.Staleness.{IsStale}
+use Rattle.whips_flow.specs.Staleness.{IsStale}
 use Rattle.whips_vnl.proofs.Kept.{live_kept}
 use Rattle.whips_store.specs.declared.error.StoreErr.{StoreErr}
 use Rattle.whips_store.specs.declared.error.StoreErr.TheVariants.{Full}
@@ -95,7 +95,7 @@ pub publish_reads : PublishKeepsReads
 publish_reads s x i v = ap (λ records. visible s.versions v (at records i)) (published_at s.views x)
 
 -- a version that was committed and isn't stale while the next one is written is in use
-live_in_use : (n v phase : ℕ) → 2 ≤ n → phase % 2 ≡ 1 → 2 * v ≤ phase → (IsStale n v phase → ⊥) → (phase / 2 - (n - 2) ≤ v) × (v ≤ phase / 2)
+pub live_in_use : (n v phase : ℕ) → 2 ≤ n → phase % 2 ≡ 1 → 2 * v ≤ phase → (IsStale n v phase → ⊥) → (phase / 2 - (n - 2) ≤ v) × (v ≤ phase / 2)
 live_in_use n v phase two odd le live = (elim (cases_lt (2 * v + 2 * (n - 1)) phase) [ inl stale ↦ absurd (live stale) | inr fresh ↦ omega arith ], omega arith)
 
 same_slots : (n phase : ℕ) (v : ViewState) (change : Change) (others : List Change) (i w : ℕ) → 2 ≤ n → IsSoundView n phase v → v.left ≡ change ∷ others → 2 * w ≤ phase → (IsStale n w phase → ⊥)

@@ -4,9 +4,9 @@ use Rattle.std.specs.List.{AllByRecursion}
 use Rattle.whips_model.specs.Tuples.{Codes, Columns}
 use Rattle.whips_model.specs.Relation.{IsTable}
 use Rattle.whips_vnl.specs.Records.{seen_past}
-use Rattle.whips_vnl.specs.Staleness.{IsStale}
+use Rattle.whips_flow.specs.Staleness.{IsStale}
 use Rattle.whips_store.specs.Stores.{StoreState, ChangeLists, view_in, changes_left, seen_in}
-use Rattle.whips_store.specs.Calls.{AreNet, shortage, begun, changed_once, published}
+use Rattle.whips_store.specs.Calls.{AreNet, AreRowsWithin, shortage, begun, changed_once, published}
 use Rattle.whips_store.specs.First.{first_view}
 use Rattle.whips_store.specs.Sound.{IsSoundView, IsSoundStore}
 
@@ -41,6 +41,7 @@ PublishKeepsReads = (s : StoreState) (x i v : ℕ) → seen_in (published s) x i
 abbrev pub LiveVersionsAreShown : Type 0
 LiveVersionsAreShown = (s : StoreState) → IsSoundStore s → (x i v : ℕ) → x < length s.views → i < length (view_in s x).records → (IsStale s.versions v s.phase → ⊥) → seen_in s x i v ≢ seen_past
 
--- A view is sound in a store at version 0.
+-- A view with no number above the greatest is sound in a store at version 0.
 abbrev pub FirstIsSound : Type 0
-FirstIsSound = (n : ℕ) (columns : Columns) (rows : List Codes) (spare : ℕ) → 2 ≤ n → IsTable columns rows → IsSoundView n 0 (first_view columns rows spare)
+FirstIsSound = (n : ℕ) (columns : Columns) (rows : List Codes) (spare : ℕ) → 2 ≤ n → IsTable columns rows → AreRowsWithin columns.kinds rows
+    → IsSoundView n 0 (first_view columns rows spare)

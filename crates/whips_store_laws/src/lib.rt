@@ -39,7 +39,7 @@ pub fn live_versions_are_shown()
     ensures { LiveVersionsAreShown }
 {}
 
-/// Law: a view is sound in a store at version 0.
+/// Law: a view with no number above the greatest is sound in a store at version 0.
 pub fn first_is_sound()
     ensures { FirstIsSound }
 {}

@@ -7,7 +7,7 @@ use Rattle.std.specs.declared.cmp.Ordering.TheVariants.{Less, Equal, Greater}
 use Rattle.std.proofs.lemmas.Bool.{cases_eq}
 use Rattle.std.proofs.lemmas.List.{take_all}
 use Rattle.whips_model.specs.Tuples.{Codes, at_columns, codes_cmp}
-use Rattle.whips_model.specs.Members.{Has}
+use Rattle.whips_lists.specs.Members.{Has}
 use Rattle.whips_choices.specs.KeyedViews.{KeyedView}
 use Rattle.whips_choices.specs.Partials.{Partial}
 use Rattle.whips_choices.proofs.Rows.{codes_equal, codes_tied}

@@ -8,7 +8,9 @@ use Rattle.std.specs.declared.cmp.Ordering.TheVariants.{Less, Equal}
 use Rattle.whips_model.specs.Tuples.{Codes, Columns}
 use Rattle.whips_choices.specs.KeyedViews.{KeyedView}
 use Rattle.whips_states.specs.Net.{by_part}
-use Rattle.whips_steps.specs.Steps.{numbers_below, asked_sources}
+use Rattle.whips_steps.specs.Steps.{asked_sources}
+use Rattle.whips_lists.specs.Lists.{places_from}
+use Rattle.whips_lists.proofs.Places.{places_next}
 use Rattle.whips_managers.specs.Managers.{Query, ManagerState, with_given, with_put, with_query, with_all_given, put_or_asked, with_pending, with_deletion, with_deletions}
 use Rattle.whips_open_queries.specs.Names.{IsNamedBelow}
 use Rattle.whips_strobe.specs.Parts.{tuples_at}
@@ -27,10 +29,10 @@ all_given_more v columns number given [] part m = refl
 all_given_more v columns number given (p ∷ parts) part m = all_given_more v columns number given parts part (with_given v columns m number p (given p))
 
 -- the insertion at one more part
-pub given_next : (v : KeyedView) (columns : Columns) (number : ℕ) (given : ℕ → List Codes) (part : ℕ) (m now new : ManagerState) (ts : List Codes) → now ≡ with_all_given v columns m number given (numbers_below part) → ts ≡ given part
-    → new ≡ with_given v columns now number part ts → new ≡ with_all_given v columns m number given (numbers_below (part + 1))
+pub given_next : (v : KeyedView) (columns : Columns) (number : ℕ) (given : ℕ → List Codes) (part : ℕ) (m now new : ManagerState) (ts : List Codes) → now ≡ with_all_given v columns m number given (places_from 0 part) → ts ≡ given part
+    → new ≡ with_given v columns now number part ts → new ≡ with_all_given v columns m number given (places_from 0 (part + 1))
 given_next v columns number given part m now new ts so_far are is =
-    rw add-one (is ∙ ap (λ (w : ManagerState). with_given v columns w number part ts) so_far ∙ ap (with_given v columns (with_all_given v columns m number given (numbers_below part)) number part) are ∙ sym (all_given_more v columns number given (numbers_below part) part m))
+    rw add-one (is ∙ ap (λ (w : ManagerState). with_given v columns w number part ts) so_far ∙ ap (with_given v columns (with_all_given v columns m number given (places_from 0 part)) number part) are ∙ sym (all_given_more v columns number given (places_from 0 part) part m) ∙ ap (with_all_given v columns m number given) (sym (places_next part)))
 
 module _ (v : KeyedView) (columns : Columns) (m : ManagerState) (number part : ℕ) where
   pub given_put : (ts : List Codes) → ts ≢ [] → asked_sources v part ≡ [] → with_given v columns m number part ts ≡ with_put v columns m number part ts

@@ -19,8 +19,9 @@ use Rattle.whips_model.specs.Tuples.{Columns}
 use Rattle.whips_choices.specs.KeyedViews.{KeyedView}
 use Rattle.whips_choices.specs.Partials.{Partial}
 use Rattle.whips_choices.proofs.Rows.{codes_tied}
-use Rattle.whips_states.specs.States.{changed_at}
-use Rattle.whips_steps.specs.Steps.{StepData, numbers_below, put_number, home, other_parts, steps, asked_sources, source_of_step, parts_of_source}
+use Rattle.whips_lists.specs.Lists.{changed_at, places_from}
+use Rattle.whips_lists.proofs.Places.{length_places}
+use Rattle.whips_steps.specs.Steps.{StepData, put_number, home, other_parts, steps, asked_sources, source_of_step, parts_of_source}
 use Rattle.whips_steps.specs.Answers.{unstruck}
 use Rattle.whips_query.specs.declared.asks.Ask.{Ask}
 use Rattle.whips_managers.specs.Managers.{Query, ManagerState, is_named, has_next, moved_on, put_of, with_reply, with_reply_behind, with_reply_to, with_step, with_answer}
@@ -244,18 +245,14 @@ filter_length : {X : Type 0} (test : X → Bool) (xs : List X) → length (filte
 filter_length test [] = omega arith
 filter_length {X} test (x ∷ xs) = let ih = filter_length test xs in elim (test x) as (λ b. length {A = X} (cond b (x ∷ filter test xs) (filter test xs)) ≤ suc (length xs)) [ true ↦ omega arith | false ↦ omega arith ]
 
-pub below_length : (n : ℕ) → length (numbers_below n) ≡ n
-below_length zero = refl
-below_length (suc n) = let ih = below_length n in omega (arith, length-append (numbers_below n) (n ∷ []))
-
 -- no more than the view's relations
 pub steps_bound : (v : KeyedView) (origin : ℕ) → length (asked_sources v origin) ≤ length v.keys
 unfolding asked_sources
 steps_bound v origin =
     let a = rising_length (map (home v) (other_parts (length v.keys) origin)) [] in
     let b = length-map (other_parts (length v.keys) origin) (home v) in
-    let c = filter_length (λ part. not (part == origin)) (numbers_below (length v.keys)) in
-    let d = below_length (length v.keys) in
+    let c = filter_length (λ part. not (part == origin)) (places_from 0 (length v.keys)) in
+    let d = length_places 0 (length v.keys) in
     omega arith
 
 -- ---- the query that a reply is for

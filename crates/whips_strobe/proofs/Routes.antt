@@ -4,47 +4,33 @@ use Rattle.std.specs.Prelude.{◌==◌, min}
 use Rattle.std.proofs.lemmas.Bool.{cases_eq, cases_lt, ne_eqb}
 use Rattle.std.proofs.lemmas.List.{length-map, map-append}
 use Rattle.std.proofs.lemmas.List.Elements.{filter-append}
+use Rattle.std.specs.List.{filter}
+use Rattle.whips_lists.specs.Lists.{places_from}
+use Rattle.whips_lists.proofs.Places.{length_places, mapped_at, places_next}
 use Rattle.whips_model.specs.Tuples.{Columns}
 use Rattle.whips_choices.specs.KeyedViews.{KeyedView}
-use Rattle.whips_steps.specs.Steps.{StepData, numbers_below, other_parts, home, rising_once, steps, asked_sources}
+use Rattle.whips_steps.specs.Steps.{StepData, other_parts, home, rising_once, steps, asked_sources}
 use Rattle.whips_view.specs.ViewDefs.{View, keyed}
 use Rattle.whips_strobe.specs.Routes.{routes_of}
-use Rattle.whips_strobe.proofs.Replies.{sources_back, below_length, steps_bound}
-
-module _ {X : Type 0} where
-  early : (xs : List X) (y : X) (k : ℕ) (d : X) → k < length xs → get_or (xs ++ y ∷ []) k d ≡ get_or xs k d
-  early [] y k d lt = absurd (omega arith)
-  early (x ∷ xs) y zero d lt = refl
-  early (x ∷ xs) y (suc k) d lt = early xs y k d (omega arith)
-
-  last : (xs : List X) (y : X) (k : ℕ) (d : X) → k ≡ length xs → get_or (xs ++ y ∷ []) k d ≡ y
-  last [] y zero d e = refl
-  last [] y (suc k) d e = absurd (omega arith)
-  last (x ∷ xs) y zero d e = absurd (omega arith)
-  last (x ∷ xs) y (suc k) d e = last xs y k d (omega arith)
+use Rattle.whips_strobe.proofs.Replies.{sources_back, steps_bound}
 
 -- what stands at a place among the values of the numbers below n
-value_at : {X : Type 0} (f : ℕ → X) (n k : ℕ) (d : X) → k < n → get_or (map f (numbers_below n)) k d ≡ f k
-value_at f zero k d lt = absurd (omega arith)
-value_at f (suc n) k d lt =
-    let size : length (map f (numbers_below n)) ≡ n = length-map (numbers_below n) f ∙ below_length n in
-    ap (λ l. get_or l k d) (map-append f (numbers_below n) (n ∷ [])) ∙ elim (cases_eq k n) [
-      | inl same ↦ last (map f (numbers_below n)) (f n) k d (same ∙ sym size) ∙ ap f (sym same)
-      | inr other ↦ early (map f (numbers_below n)) (f n) k d (omega arith) ∙ value_at f n k d (omega arith)
-    ]
+value_at : {X : Type 0} (f : ℕ → X) (n k : ℕ) (d : X) → k < n → get_or (map f (places_from 0 n)) k d ≡ f k
+value_at f n k d lt = let e : 0 + k ≡ k = omega arith in mapped_at f n 0 k d lt ∙ ap f e
 
 -- one value more
-pub values_next : {X : Type 0} (f : ℕ → X) (n : ℕ) (now new : List X) (x : X) → now ≡ map f (numbers_below n) → x ≡ f n → new ≡ now ++ x ∷ [] → new ≡ map f (numbers_below (n + 1))
+pub values_next : {X : Type 0} (f : ℕ → X) (n : ℕ) (now new : List X) (x : X) → now ≡ map f (places_from 0 n) → x ≡ f n → new ≡ now ++ x ∷ [] → new ≡ map f (places_from 0 (n + 1))
 values_next f n now new x was is more =
-    more ∙ ap₂ (λ l y. l ++ y ∷ []) was is ∙ sym (map-append f (numbers_below n) (n ∷ [])) ∙ ap (λ k. map f (numbers_below k)) (sym (add-one n))
+    more ∙ ap₂ (λ l y. l ++ y ∷ []) was is ∙ sym (map-append f (places_from 0 n) (n ∷ [])) ∙ ap (map f) (sym (places_next n))
+    ∙ ap (λ k. map f (places_from 0 k)) (sym (add-one n))
 
 -- the parts other than an origin that is none of them
-all_others : (n origin : ℕ) → n ≤ origin → other_parts n origin ≡ numbers_below n
+all_others : (n origin : ℕ) → n ≤ origin → other_parts n origin ≡ places_from 0 n
 all_others zero origin le = refl
 all_others (suc n) origin le =
     let below : n ≡ origin → ⊥ = λ e. omega arith in
-    filter-append (λ part. not (part == origin)) (numbers_below n) (n ∷ [])
-    ∙ ap₂ (λ a b. a ++ cond (not b) (n ∷ []) []) (all_others n origin (omega arith)) (ne_eqb n origin below)
+    ap (filter (λ part. not (part == origin))) (places_next n) ∙ filter-append (λ part. not (part == origin)) (places_from 0 n) (n ∷ [])
+    ∙ ap₂ (λ a b. a ++ cond (not b) (n ∷ []) []) (all_others n origin (omega arith)) (ne_eqb n origin below) ∙ sym (places_next n)
 
 past_asked : (v : KeyedView) (origin : ℕ) → length v.keys ≤ origin → asked_sources v (length v.keys) ≡ asked_sources v origin
 unfolding asked_sources
@@ -66,7 +52,7 @@ route_is view routes width origin place own all size at is =
 -- there is a place for each part, and one more
 pub route_there : (view : View) (routes : List (List ℕ)) (width origin place : ℕ) → routes ≡ routes_of view → width ≡ length view.bases → place ≡ min width origin → place < length routes
 route_there view routes width origin place all size at =
-    let count : length routes ≡ suc (length view.bases) = ap length all ∙ length-map (numbers_below (suc (length view.bases))) (asked_sources (keyed view)) ∙ below_length (suc (length view.bases)) in
+    let count : length routes ≡ suc (length view.bases) = ap length all ∙ length-map (places_from 0 (suc (length view.bases))) (asked_sources (keyed view)) ∙ length_places 0 (suc (length view.bases)) in
     omega arith
 
 -- there are no more sources than relations

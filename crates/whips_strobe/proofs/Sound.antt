@@ -10,20 +10,21 @@ use Rattle.std.specs.Prelude.{slice_get, slice_index, IfSome}
 use Rattle.std.specs.List.{AllByRecursion, flat_map, range_with_len, remove}
 use Rattle.std.proofs.lemmas.List.{length-map}
 use Rattle.whips_model.specs.Tuples.{Codes, Columns, at_columns, IsKeyed}
-use Rattle.whips_model.specs.Members.{Has}
-use Rattle.whips_model.proofs.Members.{has_first, has_later, has_passed, all_has, all_from_has}
+use Rattle.whips_lists.specs.Members.{Has}
+use Rattle.whips_lists.proofs.Members.{has_first, has_later, has_passed, all_has, all_from_has}
 use Rattle.whips_model.proofs.Keyed.{keyed_filter}
 use Rattle.whips_choices.specs.KeyedViews.{KeyedView, part_key}
 use Rattle.whips_choices.specs.Partials.{Partial, seed}
 use Rattle.whips_rel.specs.declared.update.Update.{Update}
 use Rattle.whips_rel.specs.declared.update.Update.TheVariants.{Insert}
-use Rattle.whips_states.specs.States.{Updates, changed_at}
+use Rattle.whips_states.specs.States.{Updates}
+use Rattle.whips_lists.specs.Lists.{changed_at, places_from}
 use Rattle.whips_states.specs.Concerns.{meets_part}
 use Rattle.whips_states.specs.Net.{names, last_of_key, or_else, given_at, taken_at, taken, relation_at}
 use Rattle.whips_trans_laws.proofs.Nets.{inserted_last}
-use Rattle.whips_steps.specs.Steps.{numbers_below, asked_sources}
+use Rattle.whips_steps.specs.Steps.{asked_sources}
 use Rattle.whips_steps.specs.Answers.{AllDifferInKey}
-use Rattle.whips_steps.proofs.Stepping.{below_is}
+use Rattle.whips_lists.proofs.Places.{below_is}
 use Rattle.whips_view.specs.ViewDefs.{View, keyed, row_columns}
 use Rattle.whips_actions.specs.declared.action.Action.{Action}
 use Rattle.whips_actions.specs.Lists.{IsActionOf, AreActionsOf}
@@ -190,7 +191,7 @@ module _ (view : View) where
       let deleted = sound_deleted (taken (keyed view) t) (record m { last = number }) (taken_within t) numbered in
       let last = last_deleted (taken (keyed view) t) (record m { last = number }) in
       let w = width in
-      sound_all_given number t (numbers_below (length (keyed view).keys)) (with_deletions (record m { last = number }) (taken (keyed view) t)) widths
+      sound_all_given number t (places_from 0 (length (keyed view).keys)) (with_deletions (record m { last = number }) (taken (keyed view) t)) widths
       (λ part g. let b = below_is (length (keyed view).keys) part g in omega arith) (omega arith) deleted
 
   pub all_below : (m : ManagerState) (number : ℕ) → m.last < number → IsStateOf view m → AllByRecursion (λ q. q.transaction < number) m.queries

@@ -2,9 +2,8 @@
 ghost use Rattle.std.specs.Prelude.{◌≡◌, ◌↔◌, IsTrue, ◌<◌, ◌+◌, ◌-◌, ◌^◌, ◌∷◌, ◌++◌, [], length, map, drop, remove, slice_get, slice_index, slice_index_or, IfOk, OnOk, IfSome};
 ghost use Rattle.std.specs.List.{AllByRecursion};
 ghost use Rattle.whips_model.specs.Tuples.{IsKeyed};
-ghost use Rattle.whips_states.specs.States.{changed_at};
+ghost use Rattle.whips_lists.specs.Lists.{changed_at, places_from};
 ghost use Rattle.whips_states.specs.Net.{given_at};
-ghost use Rattle.whips_steps.specs.Steps.{numbers_below};
 ghost use Rattle.whips_steps.specs.Answers.{IsWhole, AllDifferInKey, unstruck};
 ghost use Rattle.whips_view.specs.ViewDefs.{keyed, row_columns};
 ghost use Rattle.whips_managers.specs.Managers.{new_manager, with_deletion, with_deletions, put_of, with_given, with_all_given, with_transaction, moved_on, with_reply, without_list};
@@ -148,7 +147,7 @@ impl State {
         requires { AllByRecursion (λ q. q.transaction < number) self.old.queries }
         ensures { OnOk result (self.new ≡ with_all_given
             (keyed view.now) (row_columns view.now) self.old number
-            (given_at (keyed view.now) t.now) (numbers_below (length view.now.bases))) }
+            (given_at (keyed view.now) t.now) (places_from 0 (length view.now.bases))) }
     {
         let given = view.plain().given(t)?;
         for part in 0..view.width() {

@@ -4,10 +4,10 @@ use Rattle.std.specs.Option.{option_or}
 use Rattle.std.specs.Ordering.{is_eq, match_ordering}
 use Rattle.std.specs.declared.cmp.Ordering.{Ordering}
 use Rattle.std.specs.declared.cmp.Ordering.TheVariants.{Less, Equal, Greater}
-use Rattle.whips_model.specs.Members.{Has}
+use Rattle.whips_lists.specs.Members.{Has}
 use Rattle.whips_model.specs.Tuples.{Codes, codes_cmp, at_columns, has_key, row_at, put_row, without_key, IsBefore, IsKeyed}
 use Rattle.whips_model.proofs.Keyed.{keyed_put, keyed_filter}
-use Rattle.whips_model.proofs.Members.{all_has}
+use Rattle.whips_lists.proofs.Members.{all_has}
 use Rattle.whips_choices.specs.Edits.{put_rows}
 use Rattle.whips_choices.proofs.Rows.{codes_equal, codes_tied, key_is, row_found, row_missing, same_row, same_rows}
 use Rattle.whips_states.specs.Laws.{without_keys}

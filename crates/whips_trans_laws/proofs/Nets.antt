@@ -3,11 +3,11 @@ use Rattle.std.proofs.Common.{◌≡◌, ◌≢◌, ◌⊎◌, inl, inr, ℕ, �
 use Rattle.std.specs.List.{filter}
 use Rattle.std.specs.Option.{option_or}
 use Rattle.std.proofs.lemmas.Bool.{and_parts, cases_eq, ne_eqb}
-use Rattle.whips_model.specs.Members.{Has}
+use Rattle.whips_lists.specs.Members.{Has}
 use Rattle.whips_model.specs.Tuples.{Codes, at_columns, has_key, row_at, put_row, without_key, IsKeyed}
 use Rattle.whips_model.specs.Relation.{Table}
 use Rattle.whips_model.proofs.Keyed.{keyed_put, keyed_filter}
-use Rattle.whips_model.proofs.Members.{has_passing, has_mapped}
+use Rattle.whips_lists.proofs.Members.{has_passing, has_mapped}
 use Rattle.whips_choices.specs.KeyedViews.{part_key}
 use Rattle.whips_choices.specs.Edits.{put_rows}
 use Rattle.whips_choices.proofs.Rows.{key_is, row_found}

@@ -5,7 +5,8 @@ use Rattle.whips_model.specs.Relation.{Table}
 use Rattle.whips_rel.specs.Updates.{relation_of}
 use Rattle.whips_rel.specs.declared.update.Update.{Update}
 use Rattle.whips_rel.specs.declared.update.Update.TheVariants.{Insert, Delete}
-use Rattle.whips_states.specs.States.{Updates, changed_at, with_row, without_row, updated, applied, all_applied, state_at, IsValid, AreValid, AreAllValid}
+use Rattle.whips_states.specs.States.{Updates, with_row, without_row, updated, applied, all_applied, state_at, IsValid, AreValid, AreAllValid}
+use Rattle.whips_lists.specs.Lists.{changed_at}
 use Rattle.whips_states.proofs.Changed.{changed_other}
 
 changed_swap : (f g : Table → Table) (r q : ℕ) (db : List Table) → r ≢ q → changed_at q g (changed_at r f db) ≡ changed_at r f (changed_at q g db)

@@ -3,7 +3,7 @@ use Rattle.std.proofs.Common.{◌≡◌, ℕ, zero, suc, false, List, [], ◌∷
 use Rattle.std.specs.Prelude.{map}
 use Rattle.std.specs.List.{AllByRecursion}
 use Rattle.std.proofs.Math.Seq.{take-length}
-use Rattle.whips_model.proofs.Members.{all_from_has}
+use Rattle.whips_lists.proofs.Members.{all_from_has}
 use Rattle.whips_model.specs.Relation.{Table, value_of}
 use Rattle.whips_model.specs.Views.{ViewData}
 use Rattle.whips_rel.specs.Updates.{relation_of}
@@ -19,41 +19,41 @@ abbrev pub AreApart : List (List Updates) → Type 0
 AreApart [] = Unit {0}
 AreApart (ts ∷ work) = AllByRecursion (λ us. (r : ℕ) → Changes ts r → Changes us r → ⊥) work × AreApart work
 
-inside : (ts : List Updates) → AllByRecursion (In (Changes ts)) ts
+pub inside : (ts : List Updates) → AllByRecursion (In (Changes ts)) ts
 inside ts = all_from_has (In (Changes ts)) ts (λ t i. all_from_has (λ u. Changes ts (relation_of u)) t (λ u j. (t, u, i, j, refl)))
 
-outside : (ts : List Updates) (work : List (List Updates)) → AllByRecursion (λ us. (r : ℕ) → Changes ts r → Changes us r → ⊥) work → AllByRecursion (AllByRecursion (Out (Changes ts))) work
+pub outside : (ts : List Updates) (work : List (List Updates)) → AllByRecursion (λ us. (r : ℕ) → Changes ts r → Changes us r → ⊥) work → AllByRecursion (AllByRecursion (Out (Changes ts))) work
 outside ts [] h = tt
 outside ts (us ∷ work) h = (all_from_has (Out (Changes ts)) us (λ t i. all_from_has (λ u. Changes ts (relation_of u) → ⊥) t (λ u j c. h.0 (relation_of u) c (t, u, i, j, refl))), outside ts work h.1)
 
-all_take : (P : Updates → Type 0) (n : ℕ) (ts : List Updates) → AllByRecursion P ts → AllByRecursion P (take n ts)
+pub all_take : (P : Updates → Type 0) (n : ℕ) (ts : List Updates) → AllByRecursion P ts → AllByRecursion P (take n ts)
 all_take P zero ts h = tt
 all_take P (suc n) [] h = tt
 all_take P (suc n) (t ∷ ts) h = (h.0, all_take P n ts h.1)
 
-all_drop : (P : Updates → Type 0) (n : ℕ) (ts : List Updates) → AllByRecursion P ts → AllByRecursion P (drop n ts)
+pub all_drop : (P : Updates → Type 0) (n : ℕ) (ts : List Updates) → AllByRecursion P ts → AllByRecursion P (drop n ts)
 all_drop P zero ts h = h
 all_drop P (suc n) [] h = tt
 all_drop P (suc n) (t ∷ ts) h = all_drop P n ts h.1
 
 -- ---- soundness and validity of the parts
 
-all_sound : (db : List Table) (ts : List Updates) → AreSoundTables db → AreAllValid db ts → AreSoundTables (all_applied db ts)
+pub all_sound : (db : List Table) (ts : List Updates) → AreSoundTables db → AreAllValid db ts → AreSoundTables (all_applied db ts)
 all_sound db [] h v = h
 all_sound db (t ∷ ts) h v = all_sound (applied db t) ts (tables_stay db t h v.0) v.1
 
-valid_take : (n : ℕ) (db : List Table) (ts : List Updates) → AreAllValid db ts → AreAllValid db (take n ts)
+pub valid_take : (n : ℕ) (db : List Table) (ts : List Updates) → AreAllValid db ts → AreAllValid db (take n ts)
 valid_take zero db ts v = tt
 valid_take (suc n) db [] v = tt
 valid_take (suc n) db (t ∷ ts) v = (v.0, valid_take n (applied db t) ts v.1)
 
-valid_drop : (n : ℕ) (db : List Table) (ts : List Updates) → AreAllValid db ts → AreAllValid (all_applied db (take n ts)) (drop n ts)
+pub valid_drop : (n : ℕ) (db : List Table) (ts : List Updates) → AreAllValid db ts → AreAllValid (all_applied db (take n ts)) (drop n ts)
 valid_drop zero db ts v = v
 valid_drop (suc n) db [] v = tt
 valid_drop (suc n) db (t ∷ ts) v = valid_drop n (applied db t) ts v.1
 
 -- the other sources' transactions stay valid after those of one source
-others_valid : (db : List Table) (ts ss : List Updates) (work : List (List Updates)) → AllByRecursion (In (Changes ts)) ss → AllByRecursion (λ us. (r : ℕ) → Changes ts r → Changes us r → ⊥) work → AllByRecursion (AreAllValid db) work → AllByRecursion (AreAllValid (all_applied db ss)) work
+pub others_valid : (db : List Table) (ts ss : List Updates) (work : List (List Updates)) → AllByRecursion (In (Changes ts)) ss → AllByRecursion (λ us. (r : ℕ) → Changes ts r → Changes us r → ⊥) work → AllByRecursion (AreAllValid db) work → AllByRecursion (AreAllValid (all_applied db ss)) work
 others_valid db ts ss [] i h v = tt
 others_valid db ts ss (us ∷ work) i h v =
     (lists_valid_past (Changes us) db us ss (inside us) (turned ss i) v.0, others_valid db ts ss work i h.1 v.1)
@@ -67,14 +67,14 @@ others_valid db ts ss (us ∷ work) i h v =
         one (u ∷ s) i = ((λ c. h.0 (relation_of u) i.0 c), one s i.1)
 
 -- applying all of a list in two parts
-parts_applied : (n : ℕ) (db : List Table) (ts : List Updates) → all_applied (all_applied db (take n ts)) (drop n ts) ≡ all_applied db ts
+pub parts_applied : (n : ℕ) (db : List Table) (ts : List Updates) → all_applied (all_applied db (take n ts)) (drop n ts) ≡ all_applied db ts
 parts_applied zero db ts = refl
 parts_applied (suc n) db [] = refl
 parts_applied (suc n) db (t ∷ ts) = parts_applied n (applied db t) ts
 
 module _ (view : ViewData) where
   -- transactions that don't concern the view leave its value
-  tail_keeps : (db : List Table) (ts : List Updates) → AreSoundTables db → AreAllValid db ts → AllByRecursion (λ t. concerns view t ≡ false) ts → value_of view (all_applied db ts) ≡ value_of view db
+  pub tail_keeps : (db : List Table) (ts : List Updates) → AreSoundTables db → AreAllValid db ts → AllByRecursion (λ t. concerns view t ≡ false) ts → value_of view (all_applied db ts) ≡ value_of view db
   tail_keeps db [] h v u = refl
   tail_keeps db (t ∷ ts) h v u = tail_keeps (applied db t) ts (tables_stay db t h v.0) v.1 u.1 ∙ transaction_keeps view db t h v.0 u.0
 
@@ -84,7 +84,7 @@ module _ (view : ViewData) where
   TailsUnconcerned (ts ∷ work) [] = ⊥
   TailsUnconcerned (ts ∷ work) (c ∷ cut) = AllByRecursion (λ t. concerns view t ≡ false) (drop c ts) × TailsUnconcerned work cut
 
-state_sound : (db : List Table) (work : List (List Updates)) (cut : List ℕ) → AreSoundTables db → AreApart work → AllByRecursion (AreAllValid db) work → AreSoundTables (state_at db work cut)
+pub state_sound : (db : List Table) (work : List (List Updates)) (cut : List ℕ) → AreSoundTables db → AreApart work → AllByRecursion (AreAllValid db) work → AreSoundTables (state_at db work cut)
 state_sound db [] cut h a v = h
 state_sound db (ts ∷ work) [] h a v = h
 state_sound db (ts ∷ work) (c ∷ cut) h a v =

@@ -8,7 +8,7 @@ use Rattle.whips_flow.specs.declared.event.Event.{Event}
 use Rattle.whips_flow.specs.declared.event.Event.TheVariants.{Commit, Answer, Integrate, Manage, Rel, Act, Begin}
 use Rattle.whips_runs.specs.Records.{RunRecord, version, skip, final, final_rows}
 use Rattle.whips_facts.specs.Scripts.{Script}
-use Rattle.whips_vectors.specs.Scripts.{row2, table2, at, with_slots, single, join_of_two, two_sources}
+use Rattle.whips_vectors.specs.Scripts.{row2, table2, at, with_slots, single, script_of, join_of_two, two_pieces, two_sources}
 
 -- ---- one relation, one view, no transaction
 
@@ -16,7 +16,7 @@ abbrev pub copy_of_one : ViewData
 copy_of_one = record { relations = 0 ∷ []; homes = 0 ∷ []; equal = []; conds = []; out = at 0 0 ∷ at 0 1 ∷ [] }
 
 abbrev pub still : Script
-still = record { initial = table2 (row2 1 5 ∷ []) ∷ []; work = [] ∷ []; views = with_slots 1024 copy_of_one ∷ []; versions = 2; sessions = 0 }
+still = script_of (record { homes = 0 ∷ []; initial = table2 (row2 1 5 ∷ []) ∷ []; work = [] ∷ []; views = with_slots 1024 copy_of_one ∷ []; versions = 2; sessions = 0 })
 
 abbrev pub still_records : List RunRecord
 still_records = version 0 (0 ∷ []) (1 ∷ []) ∷ final (0 ∷ []) ∷ final_rows 0 ∷ []
@@ -46,13 +46,14 @@ early_lists_records = version 0 (0 ∷ 0 ∷ []) (0 ∷ []) ∷ version 1 (1 ∷
 -- ---- a deletion at the source of the first step, while the second step is open
 
 abbrev pub three_parts : Script
-three_parts = record {
+three_parts = script_of (record {
+  homes = 0 ∷ 1 ∷ 2 ∷ [];
   initial = table2 [] ∷ table2 (row2 7 5 ∷ []) ∷ table2 (row2 9 5 ∷ []) ∷ [];
   work = (single (Insert 0 (row2 1 5)) ∷ []) ∷ (single (Delete 1 (row2 7 5)) ∷ []) ∷ [] ∷ [];
   views = with_slots 4 (record { relations = 0 ∷ 1 ∷ 2 ∷ []; homes = 0 ∷ 1 ∷ 2 ∷ []; equal = (at 0 1, at 1 1) ∷ (at 1 1, at 2 1) ∷ []; conds = []; out = at 0 0 ∷ at 1 0 ∷ at 2 0 ∷ at 0 1 ∷ [] }) ∷ [];
   versions = 2;
   sessions = 1;
-}
+})
 
 abbrev pub three_parts_plan : List Event
 three_parts_plan = Commit 0 ∷ Integrate 0 ∷ Manage 0 ∷ Answer 1 0 ∷ Integrate 1 ∷ Manage 0 ∷ Commit 1 ∷ Integrate 1 ∷ Manage 0 ∷ Answer 2 0 ∷ Integrate 2 ∷ Manage 0 ∷ []
@@ -75,13 +76,14 @@ two_lives_records = version 0 (0 ∷ 0 ∷ []) (0 ∷ []) ∷ version 1 (1 ∷ 2
 
 -- S is relation 2; the second view copies P, which is relation 1
 abbrev pub same_source : Script
-same_source = record {
+same_source = script_of (record {
+  homes = 0 ∷ 0 ∷ 1 ∷ [];
   initial = table2 [] ∷ table2 [] ∷ table2 (row2 7 5 ∷ []) ∷ [];
   work = (single (Insert 0 (row2 1 5)) ∷ single (Insert 1 (row2 2 8)) ∷ []) ∷ [] ∷ [];
   views = with_slots 4 (record join_of_two { relations = 0 ∷ 2 ∷ [] }) ∷ with_slots 4 (record { relations = 1 ∷ []; homes = 0 ∷ []; equal = []; conds = []; out = at 0 0 ∷ at 0 1 ∷ [] }) ∷ [];
   versions = 2;
   sessions = 1;
-}
+})
 
 abbrev pub same_source_plan : List Event
 same_source_plan = Commit 0 ∷ Commit 0 ∷ Integrate 0 ∷ Integrate 0 ∷ Rel ∷ Rel ∷ Manage 1 ∷ Act 1 ∷ Begin ∷ []
@@ -91,13 +93,14 @@ same_source_records = version 0 (0 ∷ 0 ∷ []) (0 ∷ 0 ∷ []) ∷ skip 9 Beg
 
 -- P stands at source 1
 abbrev pub other_source : Script
-other_source = record {
+other_source = script_of (record {
+  homes = 0 ∷ 1 ∷ 1 ∷ [];
   initial = table2 [] ∷ table2 (row2 7 5 ∷ []) ∷ table2 [] ∷ [];
   work = (single (Insert 0 (row2 1 5)) ∷ []) ∷ (single (Insert 2 (row2 2 8)) ∷ []) ∷ [];
   views = with_slots 4 join_of_two ∷ with_slots 4 (record { relations = 2 ∷ []; homes = 1 ∷ []; equal = []; conds = []; out = at 0 0 ∷ at 0 1 ∷ [] }) ∷ [];
   versions = 2;
   sessions = 1;
-}
+})
 
 abbrev pub other_source_plan : List Event
 other_source_plan = Commit 0 ∷ Commit 1 ∷ Integrate 0 ∷ Integrate 1 ∷ Rel ∷ Rel ∷ Manage 1 ∷ Act 1 ∷ Begin ∷ []
@@ -108,7 +111,7 @@ other_source_records = version 0 (0 ∷ 0 ∷ []) (0 ∷ 0 ∷ []) ∷ version 1
 -- ---- a tuple that the view's condition shuts out
 
 abbrev pub unconcerned : Script
-unconcerned = record (two_sources 4 [] [] (single (Insert 0 (row2 1 50)) ∷ []) []) { views = with_slots 4 (record join_of_two { conds = (record { at = at 0 1; cmp = Lt; code = 10; kind = Number }) ∷ [] }) ∷ [] }
+unconcerned = script_of (record (two_pieces 4 [] [] (single (Insert 0 (row2 1 50)) ∷ []) []) { views = with_slots 4 (record join_of_two { conds = (record { at = at 0 1; cmp = Lt; code = 10; kind = Number }) ∷ [] }) ∷ [] })
 
 abbrev pub unconcerned_records : List RunRecord
 unconcerned_records = version 0 (0 ∷ 0 ∷ []) (0 ∷ []) ∷ final (1 ∷ 0 ∷ []) ∷ final_rows 0 ∷ []

@@ -5,7 +5,7 @@ use Rattle.whips_flow.specs.declared.event.Event.{Event}
 use Rattle.whips_flow.specs.declared.event.Event.TheVariants.{Commit, Answer, Integrate, Manage, Rel, Act, Begin, Change, Publish, SessionOpen, SessionScan, SessionFetch}
 use Rattle.whips_runs.specs.Records.{RunRecord, version, skip, opened, more, read, expired, full, final, final_rows}
 use Rattle.whips_facts.specs.Scripts.{Script}
-use Rattle.whips_vectors.specs.Scripts.{row2, single, two_sources, whole_way}
+use Rattle.whips_vectors.specs.Scripts.{row2, single, script_of, two_pieces, two_sources, whole_way}
 
 -- ---- three versions
 
@@ -51,7 +51,7 @@ crowded_records = version 0 (0 ∷ 0 ∷ []) (2 ∷ []) ∷ full (record { view 
 
 -- a deletion and then an insertion, each a version, with these slots and versions
 abbrev pub vacated : (slots versions : ℕ) → Script
-vacated slots versions = record (two_sources slots (row2 1 5 ∷ row2 2 5 ∷ []) (row2 7 5 ∷ []) (single (Delete 0 (row2 1 5)) ∷ single (Insert 0 (row2 3 5)) ∷ []) []) { versions = versions }
+vacated slots versions = script_of (record (two_pieces slots (row2 1 5 ∷ row2 2 5 ∷ []) (row2 7 5 ∷ []) (single (Delete 0 (row2 1 5)) ∷ single (Insert 0 (row2 3 5)) ∷ []) []) { versions = versions })
 
 -- a session of version 0 fetches n slots after both versions
 abbrev pub vacated_plan : ℕ → List Event

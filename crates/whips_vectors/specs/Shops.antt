@@ -11,7 +11,7 @@ use Rattle.whips_flow.specs.declared.event.Event.TheVariants.{SessionOpen, Sessi
 use Rattle.whips_pick.specs.Picks.{next_state, picked}
 use Rattle.whips_runs.specs.Records.{RunRecord, version, opened, more, read, final, final_rows}
 use Rattle.whips_facts.specs.Scripts.{Script}
-use Rattle.whips_vectors.specs.Scripts.{row2, row3, row4, table2, at, with_slots, single}
+use Rattle.whips_vectors.specs.Scripts.{row2, row3, row4, table2, at, with_slots, single, script_of}
 
 -- ---- the shop: texts are coded by their place in the sorted list Ada, Ben, jam, tea
 
@@ -25,7 +25,8 @@ orders rows = record { columns = record { kinds = Number ∷ Number ∷ Text ∷
 
 -- customers, orders at source 0; items, prices at source 1
 abbrev pub shop : Script
-shop = record {
+shop = script_of (record {
+  homes = 0 ∷ 0 ∷ 1 ∷ 1 ∷ [];
   initial = table_of Number Text (row2 1 0 ∷ row2 2 1 ∷ []) ∷ orders (row4 10 1 3 3 ∷ row4 11 2 2 1 ∷ []) ∷ table_of Text Number (row2 2 4 ∷ row2 3 2 ∷ []) ∷ table_of Text Number (row2 2 350 ∷ row2 3 420 ∷ []) ∷ [];
   work = (single (Insert 1 (row4 12 1 2 6)) ∷ single (Delete 1 (row4 11 2 2 1)) ∷ []) ∷ (single (Delete 2 (row2 3 2)) ∷ single (Insert 2 (row2 3 9)) ∷ []) ∷ [];
   views =
@@ -35,7 +36,7 @@ shop = record {
       ∷ [];
   versions = 2;
   sessions = 0;
-}
+})
 
 abbrev pub shop_records : List RunRecord
 shop_records = version 0 (0 ∷ 0 ∷ []) (2 ∷ 2 ∷ 1 ∷ []) ∷ version 1 (1 ∷ 0 ∷ []) (3 ∷ 3 ∷ 2 ∷ []) ∷ version 2 (2 ∷ 0 ∷ []) (2 ∷ 2 ∷ 2 ∷ []) ∷ version 3 (2 ∷ 1 ∷ []) (1 ∷ 2 ∷ 2 ∷ []) ∷ version 4 (2 ∷ 2 ∷ []) (2 ∷ 2 ∷ 2 ∷ []) ∷ final (2 ∷ 2 ∷ []) ∷ final_rows 0 ∷ final_rows 1 ∷ final_rows 2 ∷ []
@@ -54,7 +55,8 @@ picked_numbers (suc n) count state = picked count (next_state state) ∷ picked_
 -- ---- orders with id, item and quantity at source 0, items with bin at source 1, one order, two sessions
 
 abbrev pub made : Script
-made = record {
+made = script_of (record {
+  homes = 0 ∷ 1 ∷ [];
   initial = (record { columns = record { kinds = Number ∷ Number ∷ Number ∷ []; key = 0 ∷ [] }; rows = [] }) ∷ table2 [] ∷ [];
   work = (single (Insert 0 (row3 16 12 69)) ∷ []) ∷ [] ∷ [];
   views =
@@ -63,7 +65,7 @@ made = record {
       ∷ [];
   versions = 2;
   sessions = 2;
-}
+})
 
 abbrev pub made_events : List Event
 made_events = SessionOpen 1 ∷ SessionOpen 0 ∷ SessionScan 1 0 ∷ SessionScan 0 0 ∷ SessionScan 1 1 ∷ SessionFetch 1 64 ∷ SessionClose 1 ∷ SessionOpen 1 ∷ SessionScan 1 0 ∷ SessionClose 0 ∷ SessionScan 1 0 ∷ SessionOpen 0 ∷ SessionClose 0 ∷ SessionFetch 1 64 ∷ SessionFetch 1 64 ∷ SessionClose 1 ∷ []

@@ -1,6 +1,6 @@
 //! Worked runs: for each script and list of events what is reported, computed by the checker from
 //! the definitions.
-#![tactic(auto)]
+#![tactic(auto, unfolding(whips_steps::specs::Steps::asked_sources))]
 
 ghost use Rattle.std.specs.Prelude.{◌≡◌, [], ◌∷◌};
 ghost use Rattle.whips_flow.specs.Painted.{closure};
@@ -51,7 +51,8 @@ pub fn later_transaction_of_a_source_waits()
 
 /// A transaction of another source may overtake.
 pub fn other_source_may_overtake()
-    ensures records { listed_records (facts_of other_source) other_source_plan ≡ other_source_records }
+    ensures records { listed_records (facts_of other_source) other_source_plan
+        ≡ other_source_records }
     ensures rows { rows_at other_source (0 ∷ 1 ∷ []) ≡ [] ∷ (row2 2 8 ∷ []) ∷ [] }
 {}
 
@@ -98,14 +99,16 @@ pub fn too_few_slots_end_the_run()
 /// With two versions the slot of a removed row is used again in the next transaction, and the session
 /// that could have read it has expired.
 pub fn slot_of_a_removed_row_is_used_again()
-    ensures records { listed_records (facts_of (vacated 2 2)) (vacated_plan 2) ≡ vacated_records (expired 0 0 0 3) }
+    ensures records { listed_records (facts_of (vacated 2 2)) (vacated_plan 2)
+        ≡ vacated_records (expired 0 0 0 3) }
     ensures rows { rows_at (vacated 2 2) (2 ∷ 0 ∷ []) ≡ (row3 2 7 5 ∷ row3 3 7 5 ∷ []) ∷ [] }
 {}
 
 /// With three versions that slot isn't free yet; with one slot more the session still reads its rows.
 pub fn third_version_keeps_old_rows()
     ensures full { listed_records (facts_of (vacated 2 3)) (vacated_plan 2) ≡ vacated_full_records }
-    ensures read { listed_records (facts_of (vacated 3 3)) (vacated_plan 3) ≡ vacated_records (read 0 0 0 3) }
+    ensures read { listed_records (facts_of (vacated 3 3)) (vacated_plan 3)
+        ≡ vacated_records (read 0 0 0 3) }
     ensures rows { rows_at (vacated 3 3) (0 ∷ 0 ∷ []) ≡ (row3 1 7 5 ∷ row3 2 7 5 ∷ []) ∷ [] }
 {}
 
@@ -122,7 +125,8 @@ pub fn picker_numbers()
 
 /// Sixteen picked turns, and what their run reports.
 pub fn picked_turns()
-    ensures events { picked_events 16 (facts_of made) 0 (start_world (facts_of made)) ≡ made_events }
+    ensures events { picked_events 16 (facts_of made) 0 (start_world (facts_of made))
+        ≡ made_events }
     ensures records { picked_records (facts_of made) 0 16 ≡ made_records }
 {}
 

@@ -10,13 +10,13 @@ use Rattle.whips_model.specs.declared.ColRef.{ColRef}
 use Rattle.whips_model.specs.declared.Cond.{Cond}
 use Rattle.whips_model.specs.Tuples.{Columns, AreColumns}
 use Rattle.whips_model.specs.Views.{ViewData}
-use Rattle.whips_model.specs.Members.{Has}
-use Rattle.whips_model.proofs.Members.{has_first, has_later, has_none, has_cases, has_either, has_before, has_mapped, all_from_has}
-use Rattle.whips_choices.specs.Places.{column, place_of, places_from, joined}
+use Rattle.whips_lists.specs.Members.{Has, AreDistinct}
+use Rattle.whips_lists.proofs.Members.{has_first, has_later, has_none, has_cases, has_either, has_before, has_mapped, all_from_has}
+use Rattle.whips_choices.specs.Places.{column, place_of, joined, key_places_from}
 use Rattle.whips_choices.proofs.Placed.{keyed_is}
 use Rattle.whips_view.specs.declared.error.ViewErr.{ViewErr}
 use Rattle.whips_view.specs.declared.error.ViewErr.TheVariants.{Limit, TwiceUsed, NoColumn, KeyMissing}
-use Rattle.whips_view.specs.ViewDefs.{kind_of, kinds_in, is_within, are_within, AreDistinct, IsWellFormed}
+use Rattle.whips_view.specs.ViewDefs.{kind_of, kinds_in, is_within, are_within, IsWellFormed}
 use Rattle.whips_view.specs.Refusals.{limit_refusal, twice_refusal, column_refusal, equality_columns, kinds_refusal, is_column, key_refusal_at, key_refusal, refusal_in}
 
 -- ---- options and tests
@@ -130,9 +130,9 @@ module _ (out : List ColRef) where
           step ih false e (inl same) = let a = eq-eqb x.part p (ap (λ z. z.part) (sym same)) in let b = eq-eqb x.col c (ap (λ z. z.col) (sym same)) in absurd (cc)
           step ih false e (inr k) = let lt = ih k in omega arith
 
-  places_below : (part : ℕ) (keys : List (List ℕ)) → HasKeys part keys → (x : ℕ) → Has x (joined (places_from out part keys)) → x < length out
+  places_below : (part : ℕ) (keys : List (List ℕ)) → HasKeys part keys → (x : ℕ) → Has x (joined (key_places_from out part keys)) → x < length out
   places_below part [] h x g = absurd (has_none x g)
-  places_below part (cols ∷ keys) h x g = elim (has_either x (map (place_of out part) cols) (joined (places_from out (suc part) keys)) g) [
+  places_below part (cols ∷ keys) h x g = elim (has_either x (map (place_of out part) cols) (joined (key_places_from out (suc part) keys)) g) [
     | inl k ↦
         let b = has_before (place_of out part) x cols k in
         let same : part + 0 ≡ part = omega arith in
@@ -164,8 +164,8 @@ module _ (parts : ViewData) (bases : List Columns) (e : refusal_in (record { par
     has_keys = keys_there parts.out 0 parts.relations bases w keys_ok
 
     -- the key columns of the rows are columns of the rows
-    pub rows_keyed : (kinds : List Kind) → length kinds ≡ length parts.out → AreColumns kinds (joined (places_from parts.out 0 (map (λ b. b.key) bases)))
-    rows_keyed kinds same = all_from_has (λ c. c < length kinds) (joined (places_from parts.out 0 (map (λ b. b.key) bases))) (λ x h. let lt = places_below parts.out 0 (map (λ b. b.key) bases) has_keys x h in omega arith)
+    pub rows_keyed : (kinds : List Kind) → length kinds ≡ length parts.out → AreColumns kinds (joined (key_places_from parts.out 0 (map (λ b. b.key) bases)))
+    rows_keyed kinds same = all_from_has (λ c. c < length kinds) (joined (key_places_from parts.out 0 (map (λ b. b.key) bases))) (λ x h. let lt = places_below parts.out 0 (map (λ b. b.key) bases) has_keys x h in omega arith)
 
     pub well_formed : limit_refusal parts ≡ None → twice_refusal parts.relations ≡ None → IsWellFormed (record { parts = parts; bases = bases })
     well_formed limits once =

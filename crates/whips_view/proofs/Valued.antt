@@ -8,7 +8,7 @@ use Rattle.whips_model.specs.declared.ColRef.{ColRef}
 use Rattle.whips_model.specs.Tuples.{Columns, IsKeyed}
 use Rattle.whips_model.specs.Relation.{Table, IsTable, rows_in, table_rows, value_of}
 use Rattle.whips_model.specs.Views.{code_at, out_row, meets, choices}
-use Rattle.whips_model.proofs.Members.{all_from_has, has_before}
+use Rattle.whips_lists.proofs.Members.{all_from_has, has_before}
 use Rattle.whips_choices.specs.KeyedViews.{AreTables}
 use Rattle.whips_choices.proofs.Values.{value_in_order}
 use Rattle.whips_states.specs.States.{AreSoundTables}

@@ -7,7 +7,7 @@ use Rattle.whips_model.specs.declared.ColRef.{ColRef}
 use Rattle.whips_model.specs.Tuples.{Columns}
 use Rattle.whips_model.specs.Views.{ViewData}
 use Rattle.whips_model.specs.Relation.{Table}
-use Rattle.whips_model.specs.Members.{Has}
+use Rattle.whips_lists.specs.Members.{Has, AreDistinct}
 use Rattle.whips_choices.specs.KeyedViews.{KeyedView, IsKeyedView}
 use Rattle.whips_choices.specs.Places.{keyed_view}
 
@@ -45,11 +45,6 @@ is_within low high n = nat_le low n && nat_le n high
 -- Whether each list of the parts has as many elements as it may: 1 to 4 relations and as many homes, up to 16 equalities and conditions, and 1 to 16 out columns.
 abbrev pub are_within : ViewData → Bool
 are_within parts = is_within 1 4 (length parts.relations) && (length parts.homes == length parts.relations) && nat_le (length parts.equal) 16 && nat_le (length parts.conds) 16 && is_within 1 16 (length parts.out)
-
--- No element stands twice.
-abbrev pub AreDistinct : List ℕ → Type 0
-AreDistinct [] = Unit {0}
-AreDistinct (x ∷ xs) = (Has x xs → ⊥) × AreDistinct xs
 
 -- What the making of a view has checked: each list has as many elements as it may, each relation has its columns, no relation stands twice, each out column is there, and each key column of each relation is among the out columns.
 pub record IsWellFormed (view : View) : Type 0 where

@@ -1,6 +1,8 @@
 //! The checks of a view's making, each with its refusal.
-ghost use Rattle.std.specs.Prelude.{◌≡◌, ◌<◌, ◌+◌, ◌^◌, true, false, length, map, is_some, None, Some, IfErr, OnOk};
+ghost use Rattle.std.specs.Prelude.{◌≡◌, ◌<◌, ◌+◌, ◌^◌, true, false, length, map, is_some, Option, None, Some, IfErr, OnOk};
 ghost use Rattle.std.specs.List.{list_any, list_all};
+ghost use Rattle.std.specs.Option.{option_or};
+ghost use Rattle.whips_view.specs.declared.error.ViewErr.{ViewErr};
 ghost use Rattle.whips_view.specs.ViewDefs.{kind_of, is_within};
 ghost use Rattle.whips_view.specs.Refusals.{limit_refusal, relation_refusal, twice_refusal, column_refusal, equality_columns, has_kind, joins_one_kind, tests_own_kind, is_column, key_refusal_at, key_refusal};
 
@@ -41,7 +43,8 @@ pub fn check_limits(parts: &ViewParts) -> Result<(), ViewErr>
 /// That each relation has a schema.
 pub fn check_relations(schemas: &[Schema], relations: &[u32]) -> Result<(), ViewErr>
     ensures ok { OnOk result (relation_refusal (length schemas.now) relations.now ≡ None) }
-    ensures refused { IfErr result (λ e. relation_refusal (length schemas.now) relations.now ≡ Some e) }
+    ensures refused { IfErr result (λ e. relation_refusal (length schemas.now)
+        relations.now ≡ Some e) }
 {
     match relations {
         [] => Ok(()),
@@ -70,6 +73,22 @@ pub fn check_once(relations: &[u32]) -> Result<(), ViewErr>
     }
 }
 
+/// That each list has as many elements as it may, and that each relation has a schema and stands once.
+pub fn check_lists(schemas: &[Schema], parts: &ViewParts) -> Result<(), ViewErr>
+    ensures limits { OnOk result (limit_refusal parts.now ≡ None) }
+    ensures relations { OnOk result (relation_refusal (length schemas.now)
+        parts.now.relations ≡ None) }
+    ensures once { OnOk result (twice_refusal parts.now.relations ≡ None) }
+    ensures refused { IfErr result (λ e. (rest : Option ViewErr)
+        → option_or (limit_refusal parts.now)
+        (option_or (relation_refusal (length schemas.now) parts.now.relations)
+        (option_or (twice_refusal parts.now.relations) rest)) ≡ Some e) }
+{
+    check_limits(parts)?;
+    check_relations(schemas, parts.relations())?;
+    check_once(parts.relations())
+}
+
 /// The kind of the column, where it is there.
 pub fn kind_at(bases: &[Schema], at: ColRef) -> Option<Kind>
     ensures { result ≡ kind_of bases.now at }
@@ -83,7 +102,8 @@ pub fn kind_at(bases: &[Schema], at: ColRef) -> Option<Kind>
 /// That the column is there.
 fn check_column(bases: &[Schema], at: ColRef) -> Result<(), ViewErr>
     ensures ok { OnOk result (is_some (kind_of bases.now at) ≡ true) }
-    ensures refused { IfErr result (λ e. (is_some (kind_of bases.now at) ≡ false) × (e ≡ ViewErr.NoColumn at)) }
+    ensures refused { IfErr result (λ e. (is_some (kind_of bases.now at) ≡ false)
+        × (e ≡ ViewErr.NoColumn at)) }
 {
     if kind_at(bases, at).is_some() {
         return Ok(());
@@ -94,7 +114,8 @@ fn check_column(bases: &[Schema], at: ColRef) -> Result<(), ViewErr>
 /// That both columns of each equality are there.
 pub fn check_equal(bases: &[Schema], equal: &[(ColRef, ColRef)]) -> Result<(), ViewErr>
     ensures ok { OnOk result (column_refusal bases.now (equality_columns equal.now) ≡ None) }
-    ensures refused { IfErr result (λ e. column_refusal bases.now (equality_columns equal.now) ≡ Some e) }
+    ensures refused { IfErr result (λ e. column_refusal bases.now
+        (equality_columns equal.now) ≡ Some e) }
 {
     match equal {
         [] => Ok(()),
@@ -109,7 +130,8 @@ pub fn check_equal(bases: &[Schema], equal: &[(ColRef, ColRef)]) -> Result<(), V
 /// That the column of each condition is there.
 pub fn check_conds(bases: &[Schema], conds: &[Cond]) -> Result<(), ViewErr>
     ensures ok { OnOk result (column_refusal bases.now (map (λ c. c.at) conds.now) ≡ None) }
-    ensures refused { IfErr result (λ e. column_refusal bases.now (map (λ c. c.at) conds.now) ≡ Some e) }
+    ensures refused { IfErr result (λ e. column_refusal bases.now
+        (map (λ c. c.at) conds.now) ≡ Some e) }
 {
     match conds {
         [] => Ok(()),
@@ -210,7 +232,8 @@ pub fn check_keys(
 ) -> Result<(), ViewErr>
     requires { part + length relations.now < 2 ^ 32 }
     ensures ok { OnOk result (key_refusal out.now part relations.now bases.now ≡ None) }
-    ensures refused { IfErr result (λ e. key_refusal out.now part relations.now bases.now ≡ Some e) }
+    ensures refused { IfErr result (λ e. key_refusal out.now part relations.now
+        bases.now ≡ Some e) }
 {
     match relations {
         [] => Ok(()),

@@ -35,7 +35,8 @@ fn number_of(relations: &[RelationForm], name: &str) -> Option<u32>
 fn read_relation(relations: &[RelationForm], value: &Value) -> Result<u32, ReadErr>
     requires { length relations.now ≤ 32 }
     ensures ok { IfOk result (λ r. place_in (names_of relations.now) (view value.now) ≡ Some r) }
-    ensures refused { IfErr result (λ e. e ≢ ReadErr.NoMemory → place_in (names_of relations.now) (view value.now) ≡ None) }
+    ensures refused { IfErr result (λ e. e ≢ ReadErr.NoMemory
+        → place_in (names_of relations.now) (view value.now) ≡ None) }
 {
     match value.as_str() {
         Some(name) => number_of(relations, name).ok_or(ReadErr::Unbuilt),
@@ -50,8 +51,10 @@ pub(crate) fn read_numbers(
     value: &Value,
 ) -> Result<Vec<u32>, ReadErr>
     requires { length relations.now ≤ 32 }
-    ensures ok { IfOk result (λ v. (numbers_in relations.now (view value.now) ≡ Some v.items) × (length v.items ≤ 4)) }
-    ensures refused { IfErr result (λ e. e ≢ ReadErr.NoMemory → numbers_in relations.now (view value.now) ≡ None) }
+    ensures ok { IfOk result (λ v. (numbers_in relations.now (view value.now) ≡ Some v.items)
+        × (length v.items ≤ 4)) }
+    ensures refused { IfErr result (λ e. e ≢ ReadErr.NoMemory
+        → numbers_in relations.now (view value.now) ≡ None) }
 {
     let items = elements_within(value, 1, 4)?;
     let mut numbers = Vec::new(alloc);
@@ -64,7 +67,8 @@ pub(crate) fn read_numbers(
 /// The source of each of these relations.
 pub(crate) fn homes_of(alloc: Global, homes: &[u32], numbers: &[u32]) -> Result<Vec<u32>, ReadErr>
     ensures ok { IfOk result (λ v. homes_of homes.now numbers.now ≡ Some v.items) }
-    ensures refused { IfErr result (λ e. e ≢ ReadErr.NoMemory → homes_of homes.now numbers.now ≡ None) }
+    ensures refused { IfErr result (λ e. e ≢ ReadErr.NoMemory
+        → homes_of homes.now numbers.now ≡ None) }
 {
     let mut found = Vec::new(alloc);
     for number in numbers {
@@ -78,7 +82,8 @@ pub(crate) fn homes_of(alloc: Global, homes: &[u32], numbers: &[u32]) -> Result<
 
 /// Puts the columns of the relation behind these, each as `relation.column`.
 fn add_names(alloc: Global, names: &mut Vec<Text>, relation: &RelationForm) -> Result<(), ReadErr>
-    ensures ok { OnOk result (names.new.items ≡ names.old.items ++ map (qualified relation.now.name) relation.now.columns) }
+    ensures ok { OnOk result (names.new.items ≡ names.old.items
+        ++ map (qualified relation.now.name) relation.now.columns) }
     ensures memory { IfErr result (λ e. e ≡ ReadErr.NoMemory) }
 {
     for column in &relation.columns {
@@ -94,7 +99,8 @@ fn add_columns(
     relations: &[RelationForm],
     numbers: &[u32],
 ) -> Result<(), ReadErr>
-    ensures ok { OnOk result (names.new.items ≡ names.old.items ++ columns_named relations.now numbers.now) }
+    ensures ok { OnOk result (names.new.items ≡ names.old.items
+        ++ columns_named relations.now numbers.now) }
     ensures memory { IfErr result (λ e. e ≡ ReadErr.NoMemory) }
 {
     match numbers {
@@ -112,7 +118,8 @@ fn add_columns(
 
 /// Puts the places of the columns of a part behind these. There is no memory for more columns than a `u32` counts.
 fn add_places(places: &mut Vec<ColRef>, part: u32, columns: &[Text]) -> Result<(), ReadErr>
-    ensures ok { OnOk result (places.new.items ≡ places.old.items ++ map (column part) (range_with_len 0 (length columns.now))) }
+    ensures ok { OnOk result (places.new.items
+        ≡ places.old.items ++ map (column part) (range_with_len 0 (length columns.now))) }
     ensures memory { IfErr result (λ e. e ≡ ReadErr.NoMemory) }
 {
     let Ok(count) = u32::try_from(columns.len()) else {
@@ -132,7 +139,8 @@ fn place_columns(
     numbers: &[u32],
 ) -> Result<(), ReadErr>
     requires { part + length numbers.now ≤ 4 }
-    ensures ok { OnOk result (places.new.items ≡ places.old.items ++ columns_placed relations.now part numbers.now) }
+    ensures ok { OnOk result (places.new.items
+        ≡ places.old.items ++ columns_placed relations.now part numbers.now) }
     ensures memory { IfErr result (λ e. e ≡ ReadErr.NoMemory) }
 {
     match numbers {
@@ -184,7 +192,8 @@ pub(crate) fn read_column(
     value: &Value,
 ) -> Result<ColRef, ReadErr>
     ensures ok { IfOk result (λ c. column_ref_in names.now places.now (view value.now) ≡ Some c) }
-    ensures refused { IfErr result (λ e. e ≢ ReadErr.NoMemory → column_ref_in names.now places.now (view value.now) ≡ None) }
+    ensures refused { IfErr result (λ e. e ≢ ReadErr.NoMemory
+        → column_ref_in names.now places.now (view value.now) ≡ None) }
 {
     let place = read_place(names, value)?;
     match places.get(place) {

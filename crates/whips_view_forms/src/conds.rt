@@ -19,8 +19,10 @@ const MOST_SLOTS: u64 = 4096;
 
 /// The up to 16 elements of a list, of which there are none where the member is missing.
 fn items_of<'a>(list: Option<&'a Value>) -> Result<&'a [Value], ReadErr>
-    ensures ok { IfOk result (λ vs. items_in (option_map (λ v. view v.now) list.entry) ≡ Some (map view vs.now)) }
-    ensures refused { IfErr result (λ e. e ≢ ReadErr.NoMemory → items_in (option_map (λ v. view v.now) list.entry) ≡ None) }
+    ensures ok { IfOk result (λ vs. items_in (option_map (λ v. view v.now) list.entry)
+        ≡ Some (map view vs.now)) }
+    ensures refused { IfErr result (λ e. e ≢ ReadErr.NoMemory
+        → items_in (option_map (λ v. view v.now) list.entry) ≡ None) }
 {
     match list {
         Some(value) => elements_within(value, 0, 16),
@@ -35,7 +37,8 @@ fn read_equality(
     value: &Value,
 ) -> Result<(ColRef, ColRef), ReadErr>
     ensures ok { IfOk result (λ p. equality_in names.now places.now (view value.now) ≡ Some p) }
-    ensures refused { IfErr result (λ e. e ≢ ReadErr.NoMemory → equality_in names.now places.now (view value.now) ≡ None) }
+    ensures refused { IfErr result (λ e. e ≢ ReadErr.NoMemory
+        → equality_in names.now places.now (view value.now) ≡ None) }
 {
     match elements(value)? {
         [left, right] => {
@@ -54,8 +57,11 @@ pub(crate) fn read_equalities(
     places: &[ColRef],
     list: Option<&Value>,
 ) -> Result<Equalities, ReadErr>
-    ensures ok { IfOk result (λ l. each_in (equality_in names.now places.now) (option_map (λ v. view v.now) list.entry) ≡ Some l) }
-    ensures refused { IfErr result (λ e. e ≢ ReadErr.NoMemory → each_in (equality_in names.now places.now) (option_map (λ v. view v.now) list.entry) ≡ None) }
+    ensures ok { IfOk result (λ l. each_in (equality_in names.now places.now)
+        (option_map (λ v. view v.now) list.entry) ≡ Some l) }
+    ensures refused { IfErr result (λ e. e ≢ ReadErr.NoMemory
+        → each_in (equality_in names.now places.now)
+        (option_map (λ v. view v.now) list.entry) ≡ None) }
 {
     let items = items_of(list)?;
     let mut pairs = Vec::new(alloc);
@@ -93,7 +99,8 @@ fn comparison_of(text: &str) -> Option<Cmp>
 /// The comparison that the value is.
 fn read_comparison(value: &Value) -> Result<Cmp, ReadErr>
     ensures ok { IfOk result (λ c. comparison_in (view value.now) ≡ Some c) }
-    ensures refused { IfErr result (λ e. e ≢ ReadErr.NoMemory → comparison_in (view value.now) ≡ None) }
+    ensures refused { IfErr result (λ e. e ≢ ReadErr.NoMemory
+        → comparison_in (view value.now) ≡ None) }
 {
     match value.as_str() {
         Some(text) => comparison_of(text).ok_or(ReadErr::Unbuilt),
@@ -104,7 +111,8 @@ fn read_comparison(value: &Value) -> Result<Cmp, ReadErr>
 /// The condition that a column compares so to a number.
 fn read_cond(names: &[Text], places: &[ColRef], value: &Value) -> Result<Cond, ReadErr>
     ensures ok { IfOk result (λ c. cond_in names.now places.now (view value.now) ≡ Some c) }
-    ensures refused { IfErr result (λ e. e ≢ ReadErr.NoMemory → cond_in names.now places.now (view value.now) ≡ None) }
+    ensures refused { IfErr result (λ e. e ≢ ReadErr.NoMemory
+        → cond_in names.now places.now (view value.now) ≡ None) }
 {
     match elements(value)? {
         [name, comparison, number] => {
@@ -129,8 +137,10 @@ pub(crate) fn read_conds(
     places: &[ColRef],
     list: Option<&Value>,
 ) -> Result<Conds, ReadErr>
-    ensures ok { IfOk result (λ l. each_in (cond_in names.now places.now) (option_map (λ v. view v.now) list.entry) ≡ Some l) }
-    ensures refused { IfErr result (λ e. e ≢ ReadErr.NoMemory → each_in (cond_in names.now places.now) (option_map (λ v. view v.now) list.entry) ≡ None) }
+    ensures ok { IfOk result (λ l. each_in (cond_in names.now places.now)
+        (option_map (λ v. view v.now) list.entry) ≡ Some l) }
+    ensures refused { IfErr result (λ e. e ≢ ReadErr.NoMemory
+        → each_in (cond_in names.now places.now) (option_map (λ v. view v.now) list.entry) ≡ None) }
 {
     let items = items_of(list)?;
     let mut conds = Vec::new(alloc);
@@ -148,7 +158,8 @@ pub(crate) fn read_out(
     value: &Value,
 ) -> Result<Outs, ReadErr>
     ensures ok { IfOk result (λ l. out_in names.now places.now (view value.now) ≡ Some l) }
-    ensures refused { IfErr result (λ e. e ≢ ReadErr.NoMemory → out_in names.now places.now (view value.now) ≡ None) }
+    ensures refused { IfErr result (λ e. e ≢ ReadErr.NoMemory
+        → out_in names.now places.now (view value.now) ≡ None) }
 {
     let items = elements_within(value, 1, 16)?;
     let mut out = Vec::new(alloc);
@@ -161,7 +172,8 @@ pub(crate) fn read_out(
 /// The slots of a view.
 pub(crate) fn read_slots(slots: Option<&Value>) -> Result<u32, ReadErr>
     ensures ok { IfOk result (λ n. slots_in (option_map (λ v. view v.now) slots.entry) ≡ Some n) }
-    ensures refused { IfErr result (λ e. e ≢ ReadErr.NoMemory → slots_in (option_map (λ v. view v.now) slots.entry) ≡ None) }
+    ensures refused { IfErr result (λ e. e ≢ ReadErr.NoMemory
+        → slots_in (option_map (λ v. view v.now) slots.entry) ≡ None) }
 {
     let Some(value) = slots else {
         return Ok(DEFAULT_SLOTS);

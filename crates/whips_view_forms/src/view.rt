@@ -41,8 +41,10 @@ fn read_parts(
     homes: Vec<u32>,
     value: &Value,
 ) -> Result<ViewParts, ReadErr>
-    ensures ok { IfOk result (λ p. parts_in names.now places.now numbers.items homes.items (view value.now) ≡ Some p) }
-    ensures refused { IfErr result (λ e. e ≢ ReadErr.NoMemory → parts_in names.now places.now numbers.items homes.items (view value.now) ≡ None) }
+    ensures ok { IfOk result (λ p. parts_in names.now places.now numbers.items homes.items
+        (view value.now) ≡ Some p) }
+    ensures refused { IfErr result (λ e. e ≢ ReadErr.NoMemory
+        → parts_in names.now places.now numbers.items homes.items (view value.now) ≡ None) }
 {
     let equal = read_equalities(alloc, names, places, value.get("equal"))?;
     let conds = read_conds(alloc, names, places, value.get("where"))?;
@@ -65,8 +67,10 @@ fn read_parts_over(
     value: &Value,
 ) -> Result<ViewParts, ReadErr>
     requires { length numbers.items ≤ 4 }
-    ensures ok { IfOk result (λ p. parts_over relations.now homes.now (view value.now) numbers.items ≡ Some p) }
-    ensures refused { IfErr result (λ e. e ≢ ReadErr.NoMemory → parts_over relations.now homes.now (view value.now) numbers.items ≡ None) }
+    ensures ok { IfOk result (λ p. parts_over relations.now homes.now (view value.now) numbers.items
+        ≡ Some p) }
+    ensures refused { IfErr result (λ e. e ≢ ReadErr.NoMemory
+        → parts_over relations.now homes.now (view value.now) numbers.items ≡ None) }
 {
     let at = homes_of(alloc, homes, &numbers)?;
     let names = columns_of(alloc, relations, &numbers)?;
@@ -84,7 +88,8 @@ fn read_view(
 ) -> Result<ViewForm, ReadErr>
     requires { length relations.now ≤ 32 }
     ensures ok { IfOk result (λ v. view_in relations.now homes.now (view value.now) ≡ Some v) }
-    ensures refused { IfErr result (λ e. e ≢ ReadErr.NoMemory → view_in relations.now homes.now (view value.now) ≡ None) }
+    ensures refused { IfErr result (λ e. e ≢ ReadErr.NoMemory
+        → view_in relations.now homes.now (view value.now) ≡ None) }
 {
     if !is_object_of(value, ObjectForm::View) {
         return Err(ReadErr::Unbuilt);
@@ -104,8 +109,10 @@ pub fn read_views(
     value: &Value,
 ) -> Result<Vec<ViewForm>, ReadErr>
     requires { length relations.now ≤ 32 }
-    ensures ok { IfOk result (λ v. views_in relations.now homes.now (view value.now) ≡ Some v.items) }
-    ensures refused { IfErr result (λ e. e ≢ ReadErr.NoMemory → views_in relations.now homes.now (view value.now) ≡ None) }
+    ensures ok { IfOk result (λ v. views_in relations.now homes.now (view value.now)
+        ≡ Some v.items) }
+    ensures refused { IfErr result (λ e. e ≢ ReadErr.NoMemory
+        → views_in relations.now homes.now (view value.now) ≡ None) }
 {
     let items = elements_within(value, 1, 8)?;
     let mut views = Vec::new(alloc);

@@ -1,2 +1,1 @@
-pub mod Staleness
 pub mod Records

@@ -4,7 +4,7 @@ use Rattle.std.specs.List.{All, AllPairs}
 use Rattle.whips_model.specs.Tuples.{Codes}
 use Rattle.whips_rel.specs.declared.update.Change.{Change}
 use Rattle.whips_rel.specs.declared.update.Change.TheVariants.{Add, Replace, Remove}
-use Rattle.whips_vnl.specs.Staleness.{IsStale}
+use Rattle.whips_flow.specs.Staleness.{IsStale}
 use Rattle.whips_vnl.specs.declared.record.Op.{Op}
 use Rattle.whips_vnl.specs.declared.record.Op.TheVariants.{Added, Replaced, Removed}
 use Rattle.whips_vnl.specs.declared.record.Vstep.{Vstep}

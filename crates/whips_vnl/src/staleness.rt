@@ -1,6 +1,6 @@
 //! Staleness of a session's version.
 ghost use Rattle.std.specs.Prelude.{◌≡◌, ℕ, ◌+◌, ◌-◌, ◌*◌, ◌≤◌, ◌↔◌, IsTrue};
-ghost use Rattle.whips_vnl.specs.Staleness.{IsStale};
+ghost use Rattle.whips_flow.specs.Staleness.{IsStale};
 
 /// Whether a session at version `v` may read no more at `phase`, where `n` versions are kept.
 ///

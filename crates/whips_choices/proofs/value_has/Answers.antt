@@ -1,6 +1,6 @@
 use Rattle.std.proofs.Common.{sym}
 use Rattle.whips_model.specs.Views.{rows_of}
-use Rattle.whips_model.proofs.Members.{has_same}
+use Rattle.whips_lists.proofs.Members.{has_same}
 use Rattle.whips_choices.proofs.Values.{value_choice, value_row}
 use Rattle.whips_choices.proofs.value_has.Goals as goal
 

@@ -1,5 +1,5 @@
 use Rattle.std.proofs.Common.{inl, inr, arith}
-use Rattle.whips_model.specs.Members.{Has}
+use Rattle.whips_lists.specs.Members.{Has}
 use Rattle.whips_manager_runs.proofs.messages.partials.Goals as goal
 
 pub extended-requires-clause-distinct : goal.extended-requires-clause-distinct

@@ -1,5 +1,5 @@
 use Rattle.std.proofs.Common.{◌≡◌, filter, slice_get}
-use Rattle.whips_flow.specs.Lists.{places_from}
+use Rattle.whips_lists.specs.Lists.{places_from}
 use Rattle.whips_order.specs.Numbering.{is_concerned}
 use Rattle.whips_order.proofs.integrator.concerned_by.Given as goal
 

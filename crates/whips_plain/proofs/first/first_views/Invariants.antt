@@ -1,7 +1,7 @@
 use Rattle.std.proofs.Common.{◌≡◌, ℕ, ◌≤◌, take}
 use Rattle.std.specs.List.{AllByRecursion}
 use Rattle.whips_store.specs.Sound.{IsSoundView}
-use Rattle.whips_plain.specs.First.{views_at_first}
+use Rattle.whips_store.specs.First.{views_at_first}
 use Rattle.whips_plain.specs.Plain.{HasFewSlots}
 use Rattle.whips_plain.proofs.first.first_views.Given as goal
 

@@ -1,5 +1,5 @@
 use Rattle.std.proofs.Common.{refl, arith}
-use Rattle.whips_model.proofs.Members.{has_none}
+use Rattle.whips_lists.proofs.Members.{has_none}
 use Rattle.whips_query.proofs.tests.answer.Goals as goal
 
 pub extend-requires-clause-parts : goal.extend-requires-clause-parts

@@ -2,7 +2,7 @@ use Rattle.std.proofs.Common.{ap, ap₂, ◌∙◌, sym, refl, map, length, Vec,
 use Rattle.std.specs.declared.alloc.Global.{Global}
 use Rattle.std.proofs.lemmas.Result.{err_from_is_err_and}
 use Rattle.whips_rel.specs.declared.update.Update.{Update}
-use Rattle.whips_script.specs.Script.{Script, schemas_of, are_all_distinct}
+use Rattle.whips_script.specs.Script.{named_script, schemas_of, are_all_distinct}
 use Rattle.whips_view.specs.ViewDefs.{View}
 use Rattle.whips_forms.specs.Relations.{SourcesForm, RelationForm}
 use Rattle.whips_script.proofs.Scripts.{views_refused, setup_refused, work_refused, script_ok, keeps, lengths_mapped}
@@ -47,4 +47,4 @@ returns-clause-ok c =
     ∙ ap (are_all_distinct c.deref-3.result.now c.deref-4.result.now) (sym c.deref-5.ensures.value) ∙ c.in_ok-check_names.ensures.ok in
     script_ok c.args.sources c.args.sources work c.args.views.items c.in_ok-schemas.schemas.items refl columns c.in_ok-made.made.defs.items c.in_ok-made.made.slots.items c.in_ok-made.ensures.defs c.in_ok-made.ensures.slots c.in_ok-setup.setup c.in_ok-setup.ensures.ok.0
     c.args.names.items c.in_ok-made.made.names.items c.in_ok-work.work c.requires.names c.in_ok-made.ensures.names distinct c.in_ok-made.ensures.made c.in_ok-setup.ensures.ok.1 c.in_ok-work.ensures.ok.0 c.in_ok-work.ensures.ok.1
-    ∙ ap (λ (ss : SourcesForm). let s : Script = record { sources = ss.names; initial = c.in_ok-setup.setup.initial; work = c.in_ok-work.work; names = c.in_ok-made.made.names.items; views = map (λ (v : View). v.parts) c.in_ok-setup.setup.views } in Some s) (sym c.sources.view_is)
+    ∙ ap (λ (ss : SourcesForm). Some (named_script c.in_ok-setup.setup c.in_ok-work.work ss.names c.in_ok-made.made.names.items)) (sym c.sources.view_is)

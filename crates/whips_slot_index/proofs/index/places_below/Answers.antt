@@ -1,7 +1,7 @@
 use Rattle.std.proofs.Common.{[], ◌∷◌, inl, inr, sym, subst, arith}
 use Rattle.std.proofs.lemmas.Bool.{cases_lt}
-use Rattle.whips_model.specs.Members.{Has}
-use Rattle.whips_model.proofs.Members.{has_left, has_right, has_first, has_same}
+use Rattle.whips_lists.specs.Members.{Has}
+use Rattle.whips_lists.proofs.Members.{has_left, has_right, has_first, has_same}
 use Rattle.whips_slot_index.proofs.index.places_below.Goals as goal
 
 pub loop-place-init : goal.loop-place-init

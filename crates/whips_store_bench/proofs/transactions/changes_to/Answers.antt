@@ -1,12 +1,12 @@
--- The rows passed the test of their numbers, and the changes are net.
-use Rattle.std.proofs.Common.{sym, refl}
-use Rattle.whips_model.specs.Relation.{Table}
-use Rattle.whips_store.specs.Stores.{view_in}
+-- The rows that come passed the test of their numbers, and the changes are net.
+use Rattle.std.proofs.Common.{sym, ap, ◌∙◌}
+use Rattle.std.specs.List.{list_all}
+use Rattle.whips_store_bench.specs.Numbers.{brings_within}
 use Rattle.whips_store_bench.proofs.Handed.{handed}
 use Rattle.whips_store_bench.proofs.transactions.changes_to.Goals as goal
 
 pub returns : goal.returns
 returns g c =
     let state = g.S.Store.state c.args.store.now in
-    let current : Table = record { columns = (view_in state 0).columns; rows = (view_in state 0).current } in
-    rw c.in_ok-one.ensures (handed state current c.args.after c.args.changes.items c.requires.one refl c.requires.columns (sym c.if-not-are_fit.ensures) c.requires.net)
+    let within = sym (ap (list_all brings_within) c.deref.ensures.value) ∙ sym c.are_changes_within.ensures ∙ c.if-not-are_changes_within.false in
+    rw c.in_ok-one.ensures (handed state c.args.after c.args.changes.items c.phase-sound.ensures.sound c.schema-after.ensures.sound c.requires.one c.requires.columns within c.requires.net)

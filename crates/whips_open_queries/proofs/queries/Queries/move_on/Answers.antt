@@ -1,7 +1,7 @@
 use Rattle.std.proofs.Common.{◌<◌, length, arith, ap, ◌∙◌}
 use Rattle.std.proofs.lemmas.List.{length-map}
 use Rattle.whips_open_queries.specs.OpenQueries.{query_of}
-use Rattle.whips_states.specs.States.{changed_at}
+use Rattle.whips_lists.specs.Lists.{changed_at}
 use Rattle.whips_managers.specs.Managers.{moved_on}
 use Rattle.whips_open_queries.proofs.Kept.{over_moved, seen_moved}
 use Rattle.whips_open_queries.proofs.queries.Queries.move_on.Goals as goal

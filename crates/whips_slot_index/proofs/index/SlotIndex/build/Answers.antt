@@ -1,6 +1,6 @@
 use Rattle.std.proofs.Common.{sym, subst, arith}
 use Rattle.std.proofs.lemmas.List.{length-map}
-use Rattle.whips_model.specs.Members.{Has}
+use Rattle.whips_lists.specs.Members.{Has}
 use Rattle.whips_vnl.specs.Records.{steps_or_none}
 use Rattle.whips_slot_index.specs.Slots.{all_steps}
 use Rattle.whips_slot_index.specs.Indexes.{IndexData}

@@ -1,0 +1,6 @@
+pub mod Lists
+pub mod Places
+pub mod Members
+pub mod Options
+pub mod InList
+pub mod ByPlace
