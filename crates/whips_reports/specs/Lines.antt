@@ -66,9 +66,12 @@ row_data l [] row = []
 row_data l (k ∷ kinds) [] = []
 row_data l (k ∷ kinds) (c ∷ row) = value_data l c k ∷ row_data l kinds row
 
--- the word row and the compact JSON list of the row's values
+-- the word row and the compact JSON list of these values
+abbrev pub row_text : List Data → Bytes
+row_text values = codes "row " ++ compact_text (array (items_of values))
+
 abbrev pub row_line : Labels → List (Option Kind) → Codes → Bytes
-row_line l kinds row = codes "row " ++ compact_text (array (items_of (row_data l kinds row)))
+row_line l kinds row = row_text (row_data l kinds row)
 
 abbrev pub row_lines : Script → Labels → ℕ → List Codes → List Bytes
 row_lines s l x rows = map (row_line l (out_kinds (slice_get s.setup.views x))) rows

@@ -1,10 +1,12 @@
 // The lines that show a final state.
-ghost use Rattle.std.specs.Prelude.{◌≡◌, ◌++◌, IfOk, OnOk, string_bytes, length, map, codes};
+ghost use Rattle.std.specs.Prelude.{◌≡◌, ◌∷◌, ◌++◌, IfOk, OnOk, string_bytes, length, map, codes};
 ghost use Rattle.std.specs.List.{flat_map};
 ghost use Rattle.std.specs.Fmt.{decimal};
 ghost use Rattle.serde_json.specs.View.{view};
 ghost use Rattle.serde_json.specs.Written.{compact_text};
-ghost use Rattle.whips_run.specs.Lines.{row_data, counts_text, final_line, view_line, row_line, view_text, views_text, final_text};
+ghost use Rattle.whips_reports.specs.Lines.{words, counts_words};
+ghost use Rattle.whips_run.specs.Lines.{number_row, final_line, view_line, number_line, view_text, views_text,
+    final_text};
 
 use serde_json::Value;
 use std::alloc::{AllocError, Global};
@@ -29,6 +31,7 @@ pub(crate) fn final_text(
     Ok(text)
 }
 
+#[tactic(auto, using(crate::proofs::Words::words_behind))]
 fn push_final_line(text: &mut String, sources: &[Text], counts: &[u64]) -> Result<(), AllocError>
     ensures { OnOk result (string_bytes text.new
         ≡ string_bytes text.old ++ final_line sources.now counts.now) }
@@ -38,9 +41,10 @@ fn push_final_line(text: &mut String, sources: &[Text], counts: &[u64]) -> Resul
     text.push_str("\n")
 }
 
+#[tactic(auto, using(crate::proofs::Words::words_joined))]
 fn push_counts(text: &mut String, names: &[Text], counts: &[u64]) -> Result<(), AllocError>
     ensures { OnOk result (string_bytes text.new
-        ≡ string_bytes text.old ++ counts_text names.now counts.now) }
+        ≡ words (string_bytes text.old ∷ counts_words names.now counts.now)) }
 {
     match names {
         [] => Ok(()),
@@ -102,7 +106,7 @@ fn push_view_line(text: &mut String, name: &str, count: usize) -> Result<(), All
 
 fn push_row_lines(alloc: Global, text: &mut String, rows: &[Tuple]) -> Result<(), AllocError>
     ensures { OnOk result (string_bytes text.new
-        ≡ string_bytes text.old ++ flat_map row_line rows.now) }
+        ≡ string_bytes text.old ++ flat_map number_line rows.now) }
 {
     for row in rows {
         push_row_line(alloc, text, row.codes())?;
@@ -111,7 +115,7 @@ fn push_row_lines(alloc: Global, text: &mut String, rows: &[Tuple]) -> Result<()
 }
 
 fn push_row_line(alloc: Global, text: &mut String, row: &[u64]) -> Result<(), AllocError>
-    ensures { OnOk result (string_bytes text.new ≡ string_bytes text.old ++ row_line row.now) }
+    ensures { OnOk result (string_bytes text.new ≡ string_bytes text.old ++ number_line row.now) }
 {
     let json = row_json(alloc, row)?;
     writeln!(text, "row {json}")
@@ -119,7 +123,7 @@ fn push_row_line(alloc: Global, text: &mut String, row: &[u64]) -> Result<(), Al
 
 /// The row as compact JSON.
 fn row_json(alloc: Global, row: &[u64]) -> Result<String, AllocError>
-    ensures { IfOk result (λ text. string_bytes text ≡ compact_text (row_data row.now)) }
+    ensures { IfOk result (λ text. string_bytes text ≡ compact_text (number_row row.now)) }
 {
     let value = row_value(alloc, row)?;
     let text = value.to_string(alloc)?;
@@ -128,7 +132,7 @@ fn row_json(alloc: Global, row: &[u64]) -> Result<String, AllocError>
 
 /// The row as a JSON value.
 fn row_value(alloc: Global, row: &[u64]) -> Result<Value, AllocError>
-    ensures { IfOk result (λ value. view value ≡ row_data row.now) }
+    ensures { IfOk result (λ value. view value ≡ number_row row.now) }
 {
     let mut values = Vec::new(alloc);
     for code in row {

@@ -1,10 +1,10 @@
 use Rattle.std.proofs.Common.{◌≡◌, ℕ, List, [], ◌∷◌, false, refl, ap, ◌∙◌}
 use Rattle.serde_json.specs.Written.{has_float, compact_text}
-use Rattle.whips_run.specs.Lines.{row_data}
+use Rattle.whips_run.specs.Lines.{number_row}
 use Rattle.whips_run.proofs.lines.row_json.Goals as goal
 
 -- codes are no floats
-no_float : (row : List ℕ) → has_float (row_data row) ≡ false
+no_float : (row : List ℕ) → has_float (number_row row) ≡ false
 no_float [] = refl
 no_float (n ∷ row) = no_float row
 
