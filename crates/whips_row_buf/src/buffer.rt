@@ -36,7 +36,8 @@ impl Model for RowBuf {
 
 /// This many rows of this width.
 fn spare_lines(alloc: Global, room: u32, width: usize) -> Result<Vec<Line>, NoMemory>
-    ensures { IfOk result (λ s. (length s.items ≡ room) × AllByRecursion (λ t. length t ≡ width) s.items × (room ≤ vec_capacity s)) }
+    ensures { IfOk result (λ s. (length s.items ≡ room)
+        × AllByRecursion (λ t. length t ≡ width) s.items × (room ≤ vec_capacity s)) }
 {
     let mut spare = Vec::with_capacity(alloc, room as usize)?;
     for _ in 0..room {
@@ -87,7 +88,8 @@ impl RowBuf {
     /// Where a row of these codes goes.
     fn place(&self, codes: &[u64]) -> usize
         ensures bound { result ≤ length self.now.rows }
-        ensures place { insert self.now.rows result codes.now ≡ put_behind self.now.columns.key codes.now self.now.rows }
+        ensures place { insert self.now.rows result codes.now
+            ≡ put_behind self.now.columns.key codes.now self.now.rows }
     {
         let key = self.schema.key();
         self.rows
@@ -105,7 +107,8 @@ impl RowBuf {
     pub fn put(&mut self, codes: &[u64])
         requires room { length self.old.rows < self.old.room }
         requires width { length codes.now ≡ length self.old.columns.kinds }
-        ensures { self.new ≡ record self.old { rows = put_behind self.old.columns.key codes.now self.old.rows } }
+        ensures { self.new
+            ≡ record self.old { rows = put_behind self.old.columns.key codes.now self.old.rows } }
     {
         let at = self.place(codes);
         if let Some(mut line) = self.spare.pop() {

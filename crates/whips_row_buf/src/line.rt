@@ -49,7 +49,8 @@ impl Line {
 
 /// Whether the first row's key isn't above the second's.
 pub(crate) fn is_up_to(columns: &[u32], t: &[u64], u: &[u64]) -> bool
-    ensures { result ≡ is_le (codes_cmp (at_columns columns.now t.now) (at_columns columns.now u.now)) }
+    ensures { result ≡ is_le (codes_cmp (at_columns columns.now t.now)
+        (at_columns columns.now u.now)) }
 {
     compare_both(columns, t, u).is_le()
 }

@@ -233,7 +233,8 @@ fn are_bases(
 ) -> bool
     requires parts { part + length relations.now ≡ length view.now.bases }
     requires bound { length view.now.bases < 2 ^ 32 }
-    ensures { result ≡ are_bases at.now initial.now relations.now homes.now (drop part view.now.bases) }
+    ensures { result ≡ are_bases at.now initial.now relations.now homes.now
+        (drop part view.now.bases) }
 {
     match relations {
         [] => true,

@@ -55,8 +55,12 @@ impl Setup {
         slots: Vec<u32>,
         sources: u32,
     ) -> Result<Setup, SetupErr>
-        ensures made { IfOk result (λ s. (s ≡ setup_of sources homes.items initial.items views.items slots.items) × (setup_refusal schemas.items s ≡ None)) }
-        ensures refused { IfErr result (λ e. e ≢ SetupErr.NoMemory → setup_refusal schemas.items (setup_of sources homes.items initial.items views.items slots.items) ≡ Some e) }
+        ensures made { IfOk result (λ s. (s
+            ≡ setup_of sources homes.items initial.items views.items slots.items)
+            × (setup_refusal schemas.items s ≡ None)) }
+        ensures refused { IfErr result (λ e. e ≢ SetupErr.NoMemory
+            → setup_refusal schemas.items
+            (setup_of sources homes.items initial.items views.items slots.items) ≡ Some e) }
     {
         if !are_sources_within(sources, &homes, &schemas, &initial) {
             return Err(SetupErr::Limit);
@@ -147,7 +151,8 @@ impl Setup {
 
     /// The setup in which `n` versions stay readable, 2 to 4.
     pub fn with_versions(self, n: u32) -> Result<Setup, SetupErr>
-        ensures made { IfOk result (λ s. (is_within 2 4 n ≡ true) × (s ≡ record self { versions = n })) }
+        ensures made { IfOk result (λ s. (is_within 2 4 n ≡ true)
+            × (s ≡ record self { versions = n })) }
         ensures limit { IfErr result (λ e. (is_within 2 4 n ≡ false) × (e ≡ SetupErr.Limit)) }
     {
         if !(2 <= n && n <= 4) {
@@ -208,7 +213,8 @@ fn check_slots(x: u32, initial: &Db, views: &[ViewDef], slots: &[u32]) -> Result
     requires numbers { x + length views.now < 2 ^ 32 }
     requires bases { AllByRecursion (λ view. HasBases view initial.now) views.now }
     ensures ok { OnOk result (slots_refusal x initial.now views.now slots.now ≡ None) }
-    ensures refused { IfErr result (λ e. e ≢ SetupErr.NoMemory → slots_refusal x initial.now views.now slots.now ≡ Some e) }
+    ensures refused { IfErr result (λ e. e ≢ SetupErr.NoMemory
+        → slots_refusal x initial.now views.now slots.now ≡ Some e) }
 {
     match views {
         [] => Ok(()),

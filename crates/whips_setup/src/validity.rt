@@ -27,8 +27,10 @@ fn insert_row(
     tuple: &Tuple,
 ) -> Result<(), BatchErr>
     requires { length tuple.now ≡ length relation.old.columns.kinds }
-    ensures ok { OnOk result ((row_refusal at relation.old (Insert number tuple.now) ≡ None) × (relation.new ≡ with_row tuple.now relation.old)) }
-    ensures refused { IfErr result (λ e. e ≢ BatchErr.NoMemory → row_refusal at relation.old (Insert number tuple.now) ≡ Some e) }
+    ensures ok { OnOk result ((row_refusal at relation.old (Insert number tuple.now) ≡ None)
+        × (relation.new ≡ with_row tuple.now relation.old)) }
+    ensures refused { IfErr result (λ e. e ≢ BatchErr.NoMemory
+        → row_refusal at relation.old (Insert number tuple.now) ≡ Some e) }
 {
     match relation.insert(tuple.copy()?) {
         Ok(()) => Ok(()),
@@ -55,8 +57,10 @@ fn delete_row(
     tuple: &Tuple,
 ) -> Result<(), BatchErr>
     requires { length tuple.now ≡ length relation.old.columns.kinds }
-    ensures ok { OnOk result ((row_refusal at relation.old (Delete number tuple.now) ≡ None) × (relation.new ≡ without_row tuple.now relation.old)) }
-    ensures refused { IfErr result (λ e. e ≢ BatchErr.NoMemory → row_refusal at relation.old (Delete number tuple.now) ≡ Some e) }
+    ensures ok { OnOk result ((row_refusal at relation.old (Delete number tuple.now) ≡ None)
+        × (relation.new ≡ without_row tuple.now relation.old)) }
+    ensures refused { IfErr result (λ e. e ≢ BatchErr.NoMemory
+        → row_refusal at relation.old (Delete number tuple.now) ≡ Some e) }
 {
     let key = relation.schema().key_of(tuple)?;
     if !is_row(tuple, relation.get(&key)) {
@@ -75,8 +79,10 @@ fn make_update(
 ) -> Result<(), BatchErr>
     requires homes { length homes.now ≡ length relations.old.items }
     requires width { has_width relations.old.items update.now ≡ true }
-    ensures ok { OnOk result ((update_refusal homes.now at relations.old.items update.now ≡ None) × (relations.new.items ≡ updated relations.old.items update.now)) }
-    ensures refused { IfErr result (λ e. e ≢ BatchErr.NoMemory → update_refusal homes.now at relations.old.items update.now ≡ Some e) }
+    ensures ok { OnOk result ((update_refusal homes.now at relations.old.items update.now ≡ None)
+        × (relations.new.items ≡ updated relations.old.items update.now)) }
+    ensures refused { IfErr result (λ e. e ≢ BatchErr.NoMemory
+        → update_refusal homes.now at relations.old.items update.now ≡ Some e) }
 {
     let number = update.relation();
     if !is_source(at.source, homes, number) {
@@ -99,8 +105,10 @@ fn make_updates(
     requires homes { length homes.now ≡ length relations.old.items }
     requires items { at.item + length updates.now < 2 ^ 32 }
     requires widths { list_all (has_width relations.old.items) updates.now ≡ true }
-    ensures ok { OnOk result ((transaction_refusal homes.now at relations.old.items updates.now ≡ None) × (relations.new.items ≡ applied relations.old.items updates.now)) }
-    ensures refused { IfErr result (λ e. e ≢ BatchErr.NoMemory → transaction_refusal homes.now at relations.old.items updates.now ≡ Some e) }
+    ensures ok { OnOk result ((transaction_refusal homes.now at relations.old.items updates.now
+        ≡ None) × (relations.new.items ≡ applied relations.old.items updates.now)) }
+    ensures refused { IfErr result (λ e. e ≢ BatchErr.NoMemory
+        → transaction_refusal homes.now at relations.old.items updates.now ≡ Some e) }
 {
     match updates {
         [] => Ok(()),
@@ -127,7 +135,8 @@ pub(crate) fn make_list(
     requires places { length list.now ≤ 4096 }
     requires items { list_all (is_transaction_within relations.old.items) list.now ≡ true }
     ensures ok { OnOk result (list_refusal homes.now source 1 relations.old.items list.now ≡ None) }
-    ensures refused { IfErr result (λ e. e ≢ BatchErr.NoMemory → list_refusal homes.now source 1 relations.old.items list.now ≡ Some e) }
+    ensures refused { IfErr result (λ e. e ≢ BatchErr.NoMemory
+        → list_refusal homes.now source 1 relations.old.items list.now ≡ Some e) }
 {
     let mut place = 0u64;
     for transaction in list {

@@ -43,9 +43,11 @@ impl Workload {
         setup: &Setup,
         updates: Vec<Vec<Update>>,
     ) -> Result<Workload, WorkErr>
-        ensures made { IfOk result (λ w. (w ≡ one_each (map (λ list. list.items) updates.items)) × IsWorkload setup.now w) }
+        ensures made { IfOk result (λ w. (w ≡ one_each (map (λ list. list.items) updates.items))
+            × IsWorkload setup.now w) }
         ensures refused { IfErr result (λ e. e ≢ WorkErr.NoMemory
-            → option_map without_item (work_refusal setup.now (one_each (map (λ list. list.items) updates.items))) ≡ Some e) }
+            → option_map without_item (work_refusal setup.now
+                (one_each (map (λ list. list.items) updates.items))) ≡ Some e) }
     {
         match Workload::batched(setup, all_singles(alloc, updates)?) {
             Ok(workload) => Ok(workload),
@@ -60,8 +62,10 @@ impl Workload {
     /// The workload of these transactions. `Limit` comes first, where it comes in `make`, or where a transaction hasn't 1
     /// to 16 updates. After it comes the first refusal in the order of source, place and item.
     pub fn batched(setup: &Setup, work: Vec<Vec<Trans>>) -> Result<Workload, BatchErr>
-        ensures made { IfOk result (λ w. (w ≡ map (λ list. list.items) work.items) × IsWorkload setup.now w) }
-        ensures refused { IfErr result (λ e. e ≢ BatchErr.NoMemory → work_refusal setup.now (map (λ list. list.items) work.items) ≡ Some e) }
+        ensures made { IfOk result (λ w. (w ≡ map (λ list. list.items) work.items)
+            × IsWorkload setup.now w) }
+        ensures refused { IfErr result (λ e. e ≢ BatchErr.NoMemory
+            → work_refusal setup.now (map (λ list. list.items) work.items) ≡ Some e) }
     {
         if work.len() != setup.sources() as usize {
             return Err(BatchErr::Limit);
@@ -105,7 +109,8 @@ fn singles(alloc: Global, list: Vec<Update>) -> Result<Vec<Trans>, NoMemory>
 
 /// The transactions of one update each, list by list.
 fn all_singles(alloc: Global, updates: Vec<Vec<Update>>) -> Result<Vec<Vec<Trans>>, NoMemory>
-    ensures { IfOk result (λ made. map (λ list. list.items) made.items ≡ one_each (map (λ list. list.items) updates.items)) }
+    ensures { IfOk result (λ made. map (λ list. list.items) made.items
+        ≡ one_each (map (λ list. list.items) updates.items)) }
 {
     let mut made = Vec::with_capacity(alloc, updates.len())?;
     for list in updates {
@@ -163,7 +168,8 @@ fn is_list_within(relations: &[Relation], list: &[Trans]) -> bool
 
 /// Whether each list is within its limits.
 fn are_lists_within(relations: &[Relation], lists: &[Vec<Trans>]) -> bool
-    ensures { result ≡ list_all (is_list_within relations.now) (map (λ list. list.items) lists.now) }
+    ensures { result ≡ list_all (is_list_within relations.now)
+        (map (λ list. list.items) lists.now) }
 {
     match lists {
         [] => true,
@@ -174,9 +180,12 @@ fn are_lists_within(relations: &[Relation], lists: &[Vec<Trans>]) -> bool
 /// That each source, of which the first here is this one, can make its transactions on the initial relations.
 fn check_lists(setup: &Setup, source: u32, lists: &[Vec<Trans>]) -> Result<(), BatchErr>
     requires sources { source + length lists.now < 2 ^ 32 }
-    requires within { list_all (is_list_within setup.now.initial) (map (λ list. list.items) lists.now) ≡ true }
-    ensures ok { OnOk result (lists_refusal setup.now source (map (λ list. list.items) lists.now) ≡ None) }
-    ensures refused { IfErr result (λ e. e ≢ BatchErr.NoMemory → lists_refusal setup.now source (map (λ list. list.items) lists.now) ≡ Some e) }
+    requires within { list_all (is_list_within setup.now.initial)
+        (map (λ list. list.items) lists.now) ≡ true }
+    ensures ok { OnOk result (lists_refusal setup.now source
+        (map (λ list. list.items) lists.now) ≡ None) }
+    ensures refused { IfErr result (λ e. e ≢ BatchErr.NoMemory
+        → lists_refusal setup.now source (map (λ list. list.items) lists.now) ≡ Some e) }
 {
     match lists {
         [] => Ok(()),

@@ -44,7 +44,8 @@ pub trait Store {
     /// The rows of the view at the committed version.
     fn current(&self, x: u32) -> &Rows
         requires { x < length (state self.now).views }
-        ensures { result.now ≡ record { columns = (view_in (state self.now) x).columns; rows = (view_in (state self.now) x).current } };
+        ensures { result.now ≡ record { columns = (view_in (state self.now) x).columns; rows =
+            (view_in (state self.now) x).current } };
 
     /// The number of changes that are still to be made.
     fn left(&self) -> u64
@@ -68,8 +69,10 @@ pub trait Store {
         requires quiet { (state self.old).phase % 2 ≡ 0 }
         requires phase { (state self.old).phase < 2 ^ 62 }
         requires net { AreNet (state self.old).views changes }
-        ensures ok { OnOk result ((shortage (state self.old) changes ≡ None) × (state self.new ≡ begun changes (state self.old))) }
-        ensures full { IfErr result (λ e. e ≢ StoreErr.NoMemory → shortage (state self.old) changes ≡ Some e) }
+        ensures ok { OnOk result ((shortage (state self.old) changes ≡ None)
+            × (state self.new ≡ begun changes (state self.old))) }
+        ensures full { IfErr result (λ e. e ≢ StoreErr.NoMemory
+            → shortage (state self.old) changes ≡ Some e) }
         ensures err { OnErr result (state self.new ≡ state self.old) }
         ensures sign { sign self.new ≡ sign self.old };
 

@@ -13,8 +13,10 @@ use whips_rel::{NoMemory, Schema, Trans, Tuple, Update};
 /// Where the row with the tuple's key is, or where it would go.
 fn place(schema: &Schema, rows: &[Tuple], tuple: &Tuple) -> Result<usize, usize>
     requires { IsKeyed schema.now.key rows.now }
-    ensures found { IfOk result (IsRowAt schema.now.key rows.now (at_columns schema.now.key tuple.now)) }
-    ensures absent { IfErr result (Misses schema.now.key rows.now (at_columns schema.now.key tuple.now)) }
+    ensures found { IfOk result (IsRowAt schema.now.key rows.now
+        (at_columns schema.now.key tuple.now)) }
+    ensures absent { IfErr result (Misses schema.now.key rows.now
+        (at_columns schema.now.key tuple.now)) }
 {
     rows.binary_search_by(|t| schema.compare_keys(t, tuple))
 }
@@ -40,7 +42,8 @@ fn put(schema: &Schema, rows: &mut Vec<Tuple>, tuple: Tuple) -> Result<(), NoMem
 /// Takes out the row with the tuple's key.
 fn take_out(schema: &Schema, rows: &mut Vec<Tuple>, tuple: &Tuple)
     requires { IsKeyed schema.now.key rows.old.items }
-    ensures rows { rows.new.items ≡ without_key schema.now.key (at_columns schema.now.key tuple.now) rows.old.items }
+    ensures rows { rows.new.items ≡ without_key schema.now.key
+        (at_columns schema.now.key tuple.now) rows.old.items }
     ensures keyed { IsKeyed schema.now.key rows.new.items }
 {
     if let Ok(at) = place(schema, rows, tuple) {
@@ -56,7 +59,8 @@ fn leave(
     rows: &mut Vec<Tuple>,
 ) -> Result<(), NoMemory>
     requires { IsKeyed schema.now.key rows.old.items }
-    ensures rows { OnOk result (rows.new.items ≡ left_by relation schema.now.key rows.old.items update.now) }
+    ensures rows { OnOk result (rows.new.items
+        ≡ left_by relation schema.now.key rows.old.items update.now) }
     ensures keyed { OnOk result (IsKeyed schema.now.key rows.new.items) }
 {
     match update {
@@ -83,7 +87,8 @@ fn find(
     rows: &mut Vec<Tuple>,
 ) -> Result<(), NoMemory>
     requires { IsKeyed schema.now.key rows.old.items }
-    ensures rows { OnOk result (rows.new.items ≡ found_by relation schema.now.key update.now rows.old.items) }
+    ensures rows { OnOk result (rows.new.items
+        ≡ found_by relation schema.now.key update.now rows.old.items) }
     ensures keyed { OnOk result (IsKeyed schema.now.key rows.new.items) }
 {
     match update {
@@ -110,7 +115,8 @@ fn leave_all(
     rows: &mut Vec<Tuple>,
 ) -> Result<(), NoMemory>
     requires { IsKeyed schema.now.key rows.old.items }
-    ensures { OnOk result (rows.new.items ≡ fold (left_by relation schema.now.key) rows.old.items updates.now) }
+    ensures { OnOk result (rows.new.items ≡ fold
+        (left_by relation schema.now.key) rows.old.items updates.now) }
 {
     match updates {
         [] => Ok(()),
@@ -148,7 +154,8 @@ fn add_given(
     rows: &[Tuple],
     given: &mut Vec<(u32, Tuple)>,
 ) -> Result<(), NoMemory>
-    ensures { OnOk result (given.new.items ≡ given.old.items ++ map (λ x. (part, x)) (filter (meets_part view.now.parts part) rows.now)) }
+    ensures { OnOk result (given.new.items ≡ given.old.items
+        ++ map (λ x. (part, x)) (filter (meets_part view.now.parts part) rows.now)) }
 {
     for row in rows {
         if view.meets(part, row) {
@@ -177,7 +184,9 @@ fn add_taken(
     rows: &[Tuple],
     taken: &mut Vec<(u32, Tuple)>,
 ) -> Result<(), NoMemory>
-    ensures { OnOk result (taken.new.items ≡ taken.old.items ++ map (λ x. (part, x)) (map (at_columns key.now) (filter (meets_part view.now.parts part) rows.now))) }
+    ensures { OnOk result (taken.new.items ≡ taken.old.items
+        ++ map (λ x. (part, x)) (map (at_columns key.now)
+        (filter (meets_part view.now.parts part) rows.now))) }
 {
     for row in rows {
         if view.meets(part, row) {
@@ -195,7 +204,8 @@ fn give(
     given: &mut Vec<(u32, Tuple)>,
 ) -> Result<(), NoMemory>
     requires { part < length view.now.bases }
-    ensures { OnOk result (given.new.items ≡ given.old.items ++ map (λ x. (part, x)) (given_at (keyed view.now) updates.now part)) }
+    ensures { OnOk result (given.new.items ≡ given.old.items
+        ++ map (λ x. (part, x)) (given_at (keyed view.now) updates.now part)) }
 {
     let relation = view.parts().relations()[part as usize];
     let mut rows = Vec::new(view.alloc());
@@ -211,7 +221,8 @@ fn take(
     taken: &mut Vec<(u32, Tuple)>,
 ) -> Result<(), NoMemory>
     requires { part < length view.now.bases }
-    ensures { OnOk result (taken.new.items ≡ taken.old.items ++ map (λ x. (part, x)) (taken_at (keyed view.now) updates.now part)) }
+    ensures { OnOk result (taken.new.items ≡ taken.old.items
+        ++ map (λ x. (part, x)) (taken_at (keyed view.now) updates.now part)) }
 {
     let relation = view.parts().relations()[part as usize];
     let base = view.base(part);

@@ -43,8 +43,10 @@ impl ViewDef {
     /// column before the right one), conditions and out columns, and for keys in the order of relations and of their
     /// keys. Want of memory may come at any point.
     pub fn make(alloc: Global, schemas: &Vec<Schema>, parts: ViewParts) -> Result<ViewDef, ViewErr>
-        ensures made { IfOk result (λ v. (v ≡ view_of schemas.now.items parts) × (refusal_of schemas.now.items parts ≡ None)) }
-        ensures refused { IfErr result (λ e. e ≢ ViewErr.NoMemory → refusal_of schemas.now.items parts ≡ Some e) }
+        ensures made { IfOk result (λ v. (v ≡ view_of schemas.now.items parts)
+            × (refusal_of schemas.now.items parts ≡ None)) }
+        ensures refused { IfErr result (λ e. e ≢ ViewErr.NoMemory
+            → refusal_of schemas.now.items parts ≡ Some e) }
     {
         check_lists(schemas, &parts)?;
         let bases = bases_of(alloc, schemas, parts.relations())?;
@@ -56,8 +58,10 @@ impl ViewDef {
         requires limits { limit_refusal parts ≡ None }
         requires once { twice_refusal parts.relations ≡ None }
         requires bases { length bases.items ≡ length parts.relations }
-        ensures made { IfOk result (λ v. (v ≡ record { parts = parts; bases = bases.items }) × (refusal_in (record { parts = parts; bases = bases.items }) ≡ None)) }
-        ensures refused { IfErr result (λ e. e ≢ ViewErr.NoMemory → refusal_in (record { parts = parts; bases = bases.items }) ≡ Some e) }
+        ensures made { IfOk result (λ v. (v ≡ record { parts = parts; bases = bases.items })
+            × (refusal_in (record { parts = parts; bases = bases.items }) ≡ None)) }
+        ensures refused { IfErr result (λ e. e ≢ ViewErr.NoMemory
+            → refusal_in (record { parts = parts; bases = bases.items }) ≡ Some e) }
     {
         check_columns(&bases, &parts)?;
         let schema = row_schema(alloc, &bases, &parts)?;
@@ -108,7 +112,8 @@ impl ViewDef {
     /// equalities and conditions, in the order of the rows' keys.
     pub fn value(&self, db: &Db) -> Result<Rows, NoMemory>
         requires { HasBases self.now db.now }
-        ensures { IfOk result (λ rows. rows ≡ record { columns = row_columns self.now; rows = value_of self.now.parts db.now }) }
+        ensures { IfOk result (λ rows. rows
+            ≡ record { columns = row_columns self.now; rows = value_of self.now.parts db.now }) }
     {
         let rows = value_rows(self.alloc(), self.parts(), db.relations())?;
         Relation::from_rows(self.schema().copy()?, rows)
@@ -137,7 +142,8 @@ fn bases_of(
     relations: &[u32],
 ) -> Result<Vec<Schema>, NoMemory>
     requires { relation_refusal (length schemas.now.items) relations.now ≡ None }
-    ensures bases { IfOk result (λ b. b.items ≡ map (λ r. slice_index_or schemas.now.items r no_columns) relations.now) }
+    ensures bases { IfOk result (λ b. b.items ≡ map
+        (λ r. slice_index_or schemas.now.items r no_columns) relations.now) }
     ensures length { IfOk result (λ b. length b.items ≡ length relations.now) }
 {
     let mut bases = Vec::new(alloc);
@@ -152,7 +158,8 @@ fn add_bases(
     bases: &mut Vec<Schema>,
 ) -> Result<(), NoMemory>
     requires { relation_refusal (length schemas.now.items) relations.now ≡ None }
-    ensures { OnOk result (bases.new.items ≡ bases.old.items ++ map (λ r. slice_index_or schemas.now.items r no_columns) relations.now) }
+    ensures { OnOk result (bases.new.items ≡ bases.old.items
+        ++ map (λ r. slice_index_or schemas.now.items r no_columns) relations.now) }
 {
     match relations {
         [] => Ok(()),
@@ -167,7 +174,8 @@ fn add_bases(
 fn check_columns(bases: &[Schema], parts: &ViewParts) -> Result<(), ViewErr>
     requires { limit_refusal parts.now ≡ None }
     ensures ok { OnOk result (refusal_in (record { parts = parts.now; bases = bases.now }) ≡ None) }
-    ensures refused { IfErr result (λ e. refusal_in (record { parts = parts.now; bases = bases.now }) ≡ Some e) }
+    ensures refused { IfErr result (λ e. refusal_in
+        (record { parts = parts.now; bases = bases.now }) ≡ Some e) }
 {
     check_equal(bases, parts.equal())?;
     check_conds(bases, parts.conds())?;
@@ -205,7 +213,8 @@ fn add_places(
 ) -> Result<(), NoMemory>
     requires out { length out.now ≤ 16 }
     requires parts { part + length bases.now < 2 ^ 32 }
-    ensures { OnOk result (places.new.items ≡ places.old.items ++ joined (key_places_from out.now part (map (λ b. b.key) bases.now))) }
+    ensures { OnOk result (places.new.items ≡ places.old.items
+        ++ joined (key_places_from out.now part (map (λ b. b.key) bases.now))) }
 {
     match bases {
         [] => Ok(()),
@@ -220,7 +229,8 @@ fn add_places(
 
 /// The kinds of these columns.
 fn kinds_of(alloc: Global, bases: &[Schema], out: &[ColRef]) -> Result<Vec<Kind>, NoMemory>
-    ensures { IfOk result (λ kinds. kinds.items ≡ map (λ at. unwrap_or (kind_of bases.now at) Number) out.now) }
+    ensures { IfOk result (λ kinds. kinds.items
+        ≡ map (λ at. unwrap_or (kind_of bases.now at) Number) out.now) }
 {
     let mut kinds = Vec::new(alloc);
     for at in out {
