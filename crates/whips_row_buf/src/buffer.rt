@@ -28,11 +28,7 @@ impl Model for RowBuf {
 
     ghost view = { λ b. record { columns = b.schema; rows = b.rows.items; room = b.room } };
 
-    ghost invariant = { λ b. IsBuffer (record {
-      columns = b.schema;
-      rows = b.rows.items;
-      room = b.room;
-    })
+    ghost invariant = { λ b. IsBuffer (record { columns = b.schema; rows = b.rows.items; room = b.room })
         × (length b.rows.items + length b.spare.items ≡ b.room)
         × AllByRecursion (λ t. length t ≡ length b.schema.kinds) b.spare.items
         × (b.room ≤ vec_capacity b.rows) × (b.room ≤ vec_capacity b.spare) × (b.room < 2 ^ 32) };
@@ -111,10 +107,8 @@ impl RowBuf {
     pub fn put(&mut self, codes: &[u64])
         requires room { length self.old.rows < self.old.room }
         requires width { length codes.now ≡ length self.old.columns.kinds }
-        ensures { self.new ≡ record self.old {
-          rows = put_behind self.old.columns.key codes.now
-              self.old.rows;
-        } }
+        ensures { self.new
+            ≡ record self.old { rows = put_behind self.old.columns.key codes.now self.old.rows } }
     {
         let at = self.place(codes);
         if let Some(mut line) = self.spare.pop() {

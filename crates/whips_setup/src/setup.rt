@@ -33,24 +33,9 @@ impl Model for Setup {
 
     ghost use Rattle.whips_setup.specs.Refusals.{IsSetup};
 
-    ghost view = { λ s. record {
-      sources = s.sources;
-      homes = s.homes.items;
-      initial = s.initial;
-      views = s.views.items;
-      slots = s.slots.items;
-      versions = s.versions;
-    } };
+    ghost view = { λ s. record { sources = s.sources; homes = s.homes.items; initial = s.initial; views = s.views.items; slots = s.slots.items; versions = s.versions } };
 
-    ghost invariant = { λ s. IsSetup (record {
-      sources = s.sources;
-      homes = s.homes.items;
-      initial =
-          s.initial;
-      views = s.views.items;
-      slots = s.slots.items;
-      versions = s.versions;
-    }) };
+    ghost invariant = { λ s. IsSetup (record { sources = s.sources; homes = s.homes.items; initial = s.initial; views = s.views.items; slots = s.slots.items; versions = s.versions }) };
 }
 
 impl Setup {
@@ -70,11 +55,12 @@ impl Setup {
         slots: Vec<u32>,
         sources: u32,
     ) -> Result<Setup, SetupErr>
-        ensures made { IfOk result (λ s. (s ≡ setup_of sources homes.items initial.items views.items
-            slots.items) × (setup_refusal schemas.items s ≡ None)) }
+        ensures made { IfOk result (λ s. (s
+            ≡ setup_of sources homes.items initial.items views.items slots.items)
+            × (setup_refusal schemas.items s ≡ None)) }
         ensures refused { IfErr result (λ e. e ≢ SetupErr.NoMemory
-            → setup_refusal schemas.items (setup_of sources homes.items initial.items views.items
-            slots.items) ≡ Some e) }
+            → setup_refusal schemas.items
+            (setup_of sources homes.items initial.items views.items slots.items) ≡ Some e) }
     {
         if !are_sources_within(sources, &homes, &schemas, &initial) {
             return Err(SetupErr::Limit);

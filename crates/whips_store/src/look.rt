@@ -45,8 +45,8 @@ pub trait Look {
         requires room { length into.old.rows < into.old.room }
         ensures base { base self.new ≡ base self.old }
         ensures said { (seen : Seen) × (result ≡ shown_of seen)
-            × (into.new ≡ with_seen seen into.old) × RowSaid row_says (base self.old) (log self.old)
-            (log self.new) x i v seen };
+            × (into.new ≡ with_seen seen into.old)
+            × RowSaid row_says (base self.old) (log self.old) (log self.new) x i v seen };
 
     ghost phase_stays: { PhaseStays phase_says };
 

@@ -43,8 +43,8 @@ pub fn check_limits(parts: &ViewParts) -> Result<(), ViewErr>
 /// That each relation has a schema.
 pub fn check_relations(schemas: &[Schema], relations: &[u32]) -> Result<(), ViewErr>
     ensures ok { OnOk result (relation_refusal (length schemas.now) relations.now ≡ None) }
-    ensures refused { IfErr result (λ e. relation_refusal (length schemas.now)
-        relations.now ≡ Some e) }
+    ensures refused { IfErr result (λ e. relation_refusal (length schemas.now) relations.now
+        ≡ Some e) }
 {
     match relations {
         [] => Ok(()),
@@ -76,8 +76,8 @@ pub fn check_once(relations: &[u32]) -> Result<(), ViewErr>
 /// That each list has as many elements as it may, and that each relation has a schema and stands once.
 pub fn check_lists(schemas: &[Schema], parts: &ViewParts) -> Result<(), ViewErr>
     ensures limits { OnOk result (limit_refusal parts.now ≡ None) }
-    ensures relations { OnOk result (relation_refusal (length schemas.now)
-        parts.now.relations ≡ None) }
+    ensures relations { OnOk result (relation_refusal
+        (length schemas.now) parts.now.relations ≡ None) }
     ensures once { OnOk result (twice_refusal parts.now.relations ≡ None) }
     ensures refused { IfErr result (λ e. (rest : Option ViewErr)
         → option_or (limit_refusal parts.now)
@@ -114,8 +114,8 @@ fn check_column(bases: &[Schema], at: ColRef) -> Result<(), ViewErr>
 /// That both columns of each equality are there.
 pub fn check_equal(bases: &[Schema], equal: &[(ColRef, ColRef)]) -> Result<(), ViewErr>
     ensures ok { OnOk result (column_refusal bases.now (equality_columns equal.now) ≡ None) }
-    ensures refused { IfErr result (λ e. column_refusal bases.now
-        (equality_columns equal.now) ≡ Some e) }
+    ensures refused { IfErr result (λ e. column_refusal bases.now (equality_columns equal.now)
+        ≡ Some e) }
 {
     match equal {
         [] => Ok(()),
@@ -130,8 +130,8 @@ pub fn check_equal(bases: &[Schema], equal: &[(ColRef, ColRef)]) -> Result<(), V
 /// That the column of each condition is there.
 pub fn check_conds(bases: &[Schema], conds: &[Cond]) -> Result<(), ViewErr>
     ensures ok { OnOk result (column_refusal bases.now (map (λ c. c.at) conds.now) ≡ None) }
-    ensures refused { IfErr result (λ e. column_refusal bases.now
-        (map (λ c. c.at) conds.now) ≡ Some e) }
+    ensures refused { IfErr result (λ e. column_refusal bases.now (map (λ c. c.at) conds.now)
+        ≡ Some e) }
 {
     match conds {
         [] => Ok(()),
@@ -232,8 +232,8 @@ pub fn check_keys(
 ) -> Result<(), ViewErr>
     requires { part + length relations.now < 2 ^ 32 }
     ensures ok { OnOk result (key_refusal out.now part relations.now bases.now ≡ None) }
-    ensures refused { IfErr result (λ e. key_refusal out.now part relations.now
-        bases.now ≡ Some e) }
+    ensures refused { IfErr result (λ e. key_refusal out.now part relations.now bases.now
+        ≡ Some e) }
 {
     match relations {
         [] => Ok(()),

@@ -42,8 +42,8 @@ fn put(schema: &Schema, rows: &mut Vec<Tuple>, tuple: Tuple) -> Result<(), NoMem
 /// Takes out the row with the tuple's key.
 fn take_out(schema: &Schema, rows: &mut Vec<Tuple>, tuple: &Tuple)
     requires { IsKeyed schema.now.key rows.old.items }
-    ensures rows { rows.new.items ≡ without_key schema.now.key (at_columns schema.now.key tuple.now)
-        rows.old.items }
+    ensures rows { rows.new.items ≡ without_key schema.now.key
+        (at_columns schema.now.key tuple.now) rows.old.items }
     ensures keyed { IsKeyed schema.now.key rows.new.items }
 {
     if let Ok(at) = place(schema, rows, tuple) {
@@ -59,8 +59,8 @@ fn leave(
     rows: &mut Vec<Tuple>,
 ) -> Result<(), NoMemory>
     requires { IsKeyed schema.now.key rows.old.items }
-    ensures rows { OnOk result (rows.new.items ≡ left_by relation schema.now.key
-        rows.old.items update.now) }
+    ensures rows { OnOk result (rows.new.items
+        ≡ left_by relation schema.now.key rows.old.items update.now) }
     ensures keyed { OnOk result (IsKeyed schema.now.key rows.new.items) }
 {
     match update {
@@ -87,8 +87,8 @@ fn find(
     rows: &mut Vec<Tuple>,
 ) -> Result<(), NoMemory>
     requires { IsKeyed schema.now.key rows.old.items }
-    ensures rows { OnOk result (rows.new.items ≡ found_by relation schema.now.key update.now
-        rows.old.items) }
+    ensures rows { OnOk result (rows.new.items
+        ≡ found_by relation schema.now.key update.now rows.old.items) }
     ensures keyed { OnOk result (IsKeyed schema.now.key rows.new.items) }
 {
     match update {
@@ -115,8 +115,8 @@ fn leave_all(
     rows: &mut Vec<Tuple>,
 ) -> Result<(), NoMemory>
     requires { IsKeyed schema.now.key rows.old.items }
-    ensures { OnOk result (rows.new.items ≡ fold (left_by relation schema.now.key) rows.old.items
-        updates.now) }
+    ensures { OnOk result (rows.new.items ≡ fold
+        (left_by relation schema.now.key) rows.old.items updates.now) }
 {
     match updates {
         [] => Ok(()),

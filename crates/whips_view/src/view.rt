@@ -34,8 +34,7 @@ impl Model for ViewDef {
 
     ghost view = { λ v. record { parts = v.parts; bases = v.bases.items } };
 
-    ghost invariant = { λ v. IsWellFormed (record { parts = v.parts; bases = v.bases.items })
-        × (v.schema ≡ row_columns (record { parts = v.parts; bases = v.bases.items })) };
+    ghost invariant = { λ v. IsWellFormed (record { parts = v.parts; bases = v.bases.items }) × (v.schema ≡ row_columns (record { parts = v.parts; bases = v.bases.items })) };
 }
 
 impl ViewDef {
@@ -113,11 +112,8 @@ impl ViewDef {
     /// equalities and conditions, in the order of the rows' keys.
     pub fn value(&self, db: &Db) -> Result<Rows, NoMemory>
         requires { HasBases self.now db.now }
-        ensures { IfOk result (λ rows. rows ≡ record {
-          columns = row_columns self.now;
-          rows =
-              value_of self.now.parts db.now;
-        }) }
+        ensures { IfOk result (λ rows. rows
+            ≡ record { columns = row_columns self.now; rows = value_of self.now.parts db.now }) }
     {
         let rows = value_rows(self.alloc(), self.parts(), db.relations())?;
         Relation::from_rows(self.schema().copy()?, rows)
@@ -146,8 +142,8 @@ fn bases_of(
     relations: &[u32],
 ) -> Result<Vec<Schema>, NoMemory>
     requires { relation_refusal (length schemas.now.items) relations.now ≡ None }
-    ensures bases { IfOk result (λ b. b.items ≡ map (λ r. slice_index_or schemas.now.items r
-        no_columns) relations.now) }
+    ensures bases { IfOk result (λ b. b.items ≡ map
+        (λ r. slice_index_or schemas.now.items r no_columns) relations.now) }
     ensures length { IfOk result (λ b. length b.items ≡ length relations.now) }
 {
     let mut bases = Vec::new(alloc);
@@ -178,8 +174,8 @@ fn add_bases(
 fn check_columns(bases: &[Schema], parts: &ViewParts) -> Result<(), ViewErr>
     requires { limit_refusal parts.now ≡ None }
     ensures ok { OnOk result (refusal_in (record { parts = parts.now; bases = bases.now }) ≡ None) }
-    ensures refused { IfErr result (λ e. refusal_in (record
-        { parts = parts.now; bases = bases.now }) ≡ Some e) }
+    ensures refused { IfErr result (λ e. refusal_in
+        (record { parts = parts.now; bases = bases.now }) ≡ Some e) }
 {
     check_equal(bases, parts.equal())?;
     check_conds(bases, parts.conds())?;
@@ -233,8 +229,8 @@ fn add_places(
 
 /// The kinds of these columns.
 fn kinds_of(alloc: Global, bases: &[Schema], out: &[ColRef]) -> Result<Vec<Kind>, NoMemory>
-    ensures { IfOk result (λ kinds. kinds.items ≡ map (λ at. unwrap_or (kind_of bases.now at)
-        Number) out.now) }
+    ensures { IfOk result (λ kinds. kinds.items
+        ≡ map (λ at. unwrap_or (kind_of bases.now at) Number) out.now) }
 {
     let mut kinds = Vec::new(alloc);
     for at in out {
