@@ -3,7 +3,5 @@
 
 mod buffer;
 mod line;
-#[cfg(test)]
-mod tests;
 
 pub use buffer::RowBuf;

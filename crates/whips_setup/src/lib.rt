@@ -8,8 +8,6 @@ mod labels;
 mod limits;
 mod plan;
 mod setup;
-#[cfg(test)]
-mod tests;
 mod validity;
 mod work;
 

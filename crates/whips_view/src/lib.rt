@@ -7,8 +7,6 @@ mod concern;
 mod db;
 mod error;
 mod net;
-#[cfg(test)]
-mod tests;
 mod view;
 
 pub use db::Db;
