@@ -4,3 +4,4 @@ pub mod Members
 pub mod Options
 pub mod InList
 pub mod ByPlace
+pub mod Alls

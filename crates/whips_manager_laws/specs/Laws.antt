@@ -3,7 +3,7 @@ use Rattle.std.specs.Prelude.{◌≡◌, ◌≢◌, ℕ, ◌<◌, ◌≤◌, tru
 use Rattle.whips_model.specs.Tuples.{Codes, Columns, at_columns, without_key, IsKeyed}
 use Rattle.whips_model.specs.Views.{rows_of}
 use Rattle.whips_lists.specs.Members.{Has}
-use Rattle.whips_choices.specs.KeyedViews.{KeyedView, IsKeyedView, AreTables, part_key, rows_at}
+use Rattle.whips_choices.specs.KeyedViews.{KeyedView, IsKeyedView, AreTables, part_key, rows_of_part}
 use Rattle.whips_choices.specs.Edits.{put_rows}
 use Rattle.whips_choices.specs.Partials.{Partial, extended}
 use Rattle.whips_states.specs.Concerns.{meets_part}
@@ -14,15 +14,15 @@ use Rattle.whips_managers.specs.Invariants.{Keeps}
 
 -- No tuple of the part has t's key.
 abbrev pub IsNewAt : KeyedView → List (List Codes) → ℕ → Codes → Type 0
-IsNewAt v tables part t = (u : Codes) → Has u (rows_at tables part) → at_columns (part_key v part) t ≢ at_columns (part_key v part) u
+IsNewAt v tables part t = (u : Codes) → Has u (rows_of_part tables part) → at_columns (part_key v part) t ≢ at_columns (part_key v part) u
 
 -- The tables after tuples came to a part.
 abbrev pub with_tuples : KeyedView → List (List Codes) → ℕ → List Codes → List (List Codes)
-with_tuples v tables part ts = slice_set tables part (put_rows (part_key v part) ts (rows_at tables part))
+with_tuples v tables part ts = slice_set tables part (put_rows (part_key v part) ts (rows_of_part tables part))
 
 -- The tables after a key went from a part.
 abbrev pub without_tuple : KeyedView → List (List Codes) → ℕ → Codes → List (List Codes)
-without_tuple v tables part k = slice_set tables part (without_key (part_key v part) k (rows_at tables part))
+without_tuple v tables part k = slice_set tables part (without_key (part_key v part) k (rows_of_part tables part))
 
 -- The tuple meets the view's conditions on its part and the equalities within it.
 abbrev pub Meets : KeyedView → ℕ → Codes → Type 0
@@ -43,13 +43,13 @@ UnconcernedInsertion = (v : KeyedView) (tables : List (List Codes)) (rows : List
 -- The deletion of a tuple that doesn't meet the view.
 abbrev pub UnconcernedDeletion : Type 0
 UnconcernedDeletion = (v : KeyedView) (tables : List (List Codes)) (rows : List Codes) (m : ManagerState) (part : ℕ) (t : Codes) → Keeps v tables rows m → part < length v.keys
-    → Has t (rows_at tables part) → Misses v part t → Keeps v (without_tuple v tables part (at_columns (part_key v part) t)) rows m
+    → Has t (rows_of_part tables part) → Misses v part t → Keeps v (without_tuple v tables part (at_columns (part_key v part) t)) rows m
 
 -- The tables change in tuples alone that don't meet the view.
 abbrev pub UnconcernedChange : Type 0
 UnconcernedChange = (v : KeyedView) (tables others : List (List Codes)) (rows : List Codes) (m : ManagerState) → Keeps v tables rows m → AreTables v others
-    → ((part : ℕ) (t : Codes) → part < length v.keys → Meets v part t → Has t (rows_at tables part) → Has t (rows_at others part))
-    → ((part : ℕ) (t : Codes) → part < length v.keys → Meets v part t → Has t (rows_at others part) → Has t (rows_at tables part))
+    → ((part : ℕ) (t : Codes) → part < length v.keys → Meets v part t → Has t (rows_of_part tables part) → Has t (rows_of_part others part))
+    → ((part : ℕ) (t : Codes) → part < length v.keys → Meets v part t → Has t (rows_of_part others part) → Has t (rows_of_part tables part))
     → Keeps v others rows m
 
 -- A deletion: whether a tuple has the key or not, the manager notes it.

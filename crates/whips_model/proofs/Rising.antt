@@ -7,6 +7,7 @@ use Rattle.std.proofs.lemmas.Cmp.{nat_cmp_total, tied_itself}
 use Rattle.whips_model.specs.Tuples.{Codes, codes_cmp, at_columns, IsBefore, IsKeyed}
 use Rattle.whips_model.specs.Views.{ViewData, Choice, meets, out_row, choices}
 use Rattle.whips_model.specs.Keys.{joined_key, AreKeyed, HasKeysAt, ValueIsKeyed}
+use Rattle.whips_lists.proofs.Alls.{all_append}
 
 -- lists of one length decide, where they differ
 first_less : (a b c d : Codes) → length a ≡ length b → codes_cmp a b ≡ Less → codes_cmp (a ++ c) (b ++ d) ≡ Less
@@ -33,10 +34,6 @@ module _ (keys : List (List ℕ)) where
   Rises (c ∷ cs) = AllByRecursion (Below c) cs × Rises cs
 
 module _ {X : Type 0} (P : X → Type 0) where
-  all_append : (xs ys : List X) → AllByRecursion P xs → AllByRecursion P ys → AllByRecursion P (xs ++ ys)
-  all_append [] ys h g = g
-  all_append (x ∷ xs) ys h g = (h.0, all_append xs ys h.1 g)
-
   all_map : {Y : Type 0} (f : Y → X) (ys : List Y) → AllByRecursion (λ y. P (f y)) ys → AllByRecursion P (map f ys)
   all_map f [] h = tt
   all_map f (y ∷ ys) h = (h.0, all_map f ys h.1)

@@ -11,25 +11,9 @@ use Rattle.whips_managers.specs.Managers.{Query, with_pending, moved_on}
 use Rattle.whips_open_queries.specs.Names.{name_codes, IsNamedBelow, AreInOrder}
 use Rattle.whips_open_queries.specs.OpenQueries.{query_of, AreOver}
 use Rattle.whips_open_queries.specs.declared.queries.OpenQuery.{OpenQuery}
+use Rattle.whips_lists.proofs.Alls.{all_more, all_set, all_remove}
 
 -- ---- the order of names
-
-module _ {X : Type 0} (P : X → Type 0) where
-  all_more : (xs : List X) (y : X) → AllByRecursion P xs → P y → AllByRecursion P (xs ++ y ∷ [])
-  all_more [] y h p = (p, tt)
-  all_more (x ∷ xs) y h p = (h.0, all_more xs y h.1 p)
-
-  all_removed : (xs : List X) (i : ℕ) → AllByRecursion P xs → AllByRecursion P (remove xs i)
-  all_removed [] zero h = tt
-  all_removed [] (suc i) h = tt
-  all_removed (x ∷ xs) zero h = h.1
-  all_removed (x ∷ xs) (suc i) h = (h.0, all_removed xs i h.1)
-
-  all_set : (xs : List X) (i : ℕ) (y : X) → AllByRecursion P xs → P y → AllByRecursion P (set xs i y)
-  all_set [] zero y h p = tt
-  all_set [] (suc i) y h p = tt
-  all_set (x ∷ xs) zero y h p = (p, h.1)
-  all_set (x ∷ xs) (suc i) y h p = (h.0, all_set xs i y h.1 p)
 
 in_order_more : (qs : List Query) (q : Query) → AreInOrder qs → AllByRecursion (IsNamedBelow (name_codes q)) qs → AreInOrder (qs ++ q ∷ [])
 in_order_more [] q h below = (tt, tt)
@@ -39,7 +23,7 @@ in_order_removed : (qs : List Query) (i : ℕ) → AreInOrder qs → AreInOrder 
 in_order_removed [] zero h = tt
 in_order_removed [] (suc i) h = tt
 in_order_removed (q ∷ qs) zero h = h.1
-in_order_removed (q ∷ qs) (suc i) h = (all_removed (λ r. IsNamedBelow (name_codes r) q) qs i h.0, in_order_removed qs i h.1)
+in_order_removed (q ∷ qs) (suc i) h = (all_remove (λ r. IsNamedBelow (name_codes r) q) qs i h.0, in_order_removed qs i h.1)
 
 -- queries with the same names are in the same order
 in_order_same : (qs rs : List Query) → map name_codes qs ≡ map name_codes rs → AreInOrder qs → AreInOrder rs
@@ -142,7 +126,7 @@ seen_removed deleted (o ∷ items) (suc i) = ap (λ l. query_of deleted o ∷ l)
 pub over_removed : (deleted : List (ℕ × Codes)) (items : List OpenQuery) (i : ℕ) → AreOver deleted items → (remove items i ≡ [] → ⊥) → AreOver deleted (remove items i)
 over_removed deleted items i over some = record {
   in_order = subst AreInOrder (sym (seen_removed deleted items i)) (in_order_removed (map (query_of deleted) items) i over.in_order);
-  since = all_removed (λ q. q.since ≤ length deleted) items i over.since;
+  since = all_remove (λ q. q.since ≤ length deleted) items i over.since;
   dropped = λ e. absurd (some e);
 }
 

@@ -11,23 +11,7 @@ use Rattle.std.proofs.lemmas.Cmp.{nat_list_cmp_total}
 use Rattle.whips_model.specs.Tuples.{Codes, codes_cmp, at_columns}
 use Rattle.whips_model.proofs.Keyed.{codes_reverse, codes_trans, less_from_greater, greater_from_less, all_at}
 use Rattle.whips_row_buf.specs.Buffers.{Buffer, IsBuffer, IsOrdered, put_behind}
-
-module _ {X : Type 0} (P : X → Type 0) where
-  pub all_pushed : (xs : List X) (x : X) → AllByRecursion P xs → P x → AllByRecursion P (xs ++ x ∷ [])
-  all_pushed [] x h p = (p, tt)
-  all_pushed (y ∷ xs) x h p = (h.0, all_pushed xs x h.1 p)
-
-  pub all_joined : (xs ys : List X) → AllByRecursion P xs → AllByRecursion P ys → AllByRecursion P (xs ++ ys)
-  all_joined [] ys h g = g
-  all_joined (x ∷ xs) ys h g = (h.0, all_joined xs ys h.1 g)
-
-  pub all_front : (xs ys : List X) → AllByRecursion P (xs ++ ys) → AllByRecursion P xs
-  all_front [] ys h = tt
-  all_front (x ∷ xs) ys h = (h.0, all_front xs ys h.1)
-
-  pub all_back : (xs ys : List X) → AllByRecursion P (xs ++ ys) → AllByRecursion P ys
-  all_back [] ys h = h
-  all_back (x ∷ xs) ys h = all_back xs ys h.1
+use Rattle.whips_lists.proofs.Alls.{all_left, all_right, all_append, all_more}
 
 cases_same : (i j : ℕ) → i ≤ j → (i ≡ j) ⊎ (i < j)
 cases_same zero zero le = inl refl
@@ -154,4 +138,4 @@ parts_after_put b spare left now line codes set at r h count widths room width p
     let more = length_behind b.columns.key codes b.rows in
     let split : length spare ≡ suc (length left) = ap length popped ∙ omega (arith, length-append left (line ∷ [])) in
     let counted : length (put_behind b.columns.key codes b.rows) + length left ≡ b.room = omega arith in
-    (subst (λ rows. IsBuffer (record b { rows = rows })) (sym whole) sound, subst (λ rows. length rows + length left ≡ b.room) (sym whole) counted, all_front (λ t. length t ≡ length b.columns.kinds) left (line ∷ []) (subst (AllByRecursion (λ t. length t ≡ length b.columns.kinds)) popped widths))
+    (subst (λ rows. IsBuffer (record b { rows = rows })) (sym whole) sound, subst (λ rows. length rows + length left ≡ b.room) (sym whole) counted, all_left (λ t. length t ≡ length b.columns.kinds) left (line ∷ []) (subst (AllByRecursion (λ t. length t ≡ length b.columns.kinds)) popped widths))

@@ -40,22 +40,9 @@ use Rattle.std.proofs.lemmas.Bool.{ltb-true}
 use Rattle.whips_open_queries.specs.Names.{AreInOrder, place_named}
 use Rattle.whips_strobe.proofs.Seeds.{seeds_filled, seeds_differ}
 use Rattle.whips_strobe.proofs.Replies.{IsRepliedAt, replied_at, reply_lost, reply_moves, reply_ends, asks_at, asks_lost, all_get}
+use Rattle.whips_lists.proofs.Alls.{all_append, all_more, all_remove}
 
 module _ {X : Type 0} (P : X → Type 0) where
-  all_more : (xs : List X) (y : X) → AllByRecursion P xs → P y → AllByRecursion P (xs ++ y ∷ [])
-  all_more [] y h p = (p, tt)
-  all_more (x ∷ xs) y h p = (h.0, all_more xs y h.1 p)
-
-  all_append : (xs ys : List X) → AllByRecursion P xs → AllByRecursion P ys → AllByRecursion P (xs ++ ys)
-  all_append [] ys h g = g
-  all_append (x ∷ xs) ys h g = (h.0, all_append xs ys h.1 g)
-
-  all_removed : (xs : List X) (i : ℕ) → AllByRecursion P xs → AllByRecursion P (remove xs i)
-  all_removed [] zero h = tt
-  all_removed [] (suc i) h = tt
-  all_removed (x ∷ xs) zero h = h.1
-  all_removed (x ∷ xs) (suc i) h = (h.0, all_removed xs i h.1)
-
   all_drop : (xs : List X) (i : ℕ) → AllByRecursion P xs → AllByRecursion P (drop i xs)
   all_drop xs zero h = h
   all_drop [] (suc i) h = tt
@@ -248,8 +235,8 @@ module _ (view : View) where
         })
         go false next = subst (IsStateOf view) (reply_ends transaction origin (keyed view) (row_columns view) m ps i r.query r.place r.at next) (record {
           actions = all_more (IsActionOf view) m.actions _ h.actions refl;
-          known = all_removed (λ q. q.transaction ≤ m.last) m.queries i h.known;
-          queries = all_removed (CanAsk (keyed view) (widths_of view)) m.queries i h.queries;
+          known = all_remove (λ q. q.transaction ≤ m.last) m.queries i h.known;
+          queries = all_remove (CanAsk (keyed view) (widths_of view)) m.queries i h.queries;
         })
 
     pub sound_reply : AreInOrder m.queries → IsStateOf view (with_reply (keyed view) (row_columns view) m transaction origin ps)
