@@ -3,8 +3,6 @@
 
 mod action;
 mod edit;
-#[cfg(test)]
-mod tests;
 
 pub use action::{Action, ActionList, Actions};
 pub use edit::{apply, apply_in, apply_to};

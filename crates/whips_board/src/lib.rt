@@ -13,8 +13,6 @@ mod memory;
 mod note;
 mod pen;
 mod rule;
-#[cfg(test)]
-mod tests;
 mod view;
 
 pub use board::Board;

@@ -21,12 +21,12 @@ impl<L: Law> Model for Note<L> {
     ghost Value = { NoteState L };
 
     ghost view = { λ note. record {
-        board = note.board.value;
-        history = history_of note.token.me.0
+      board = note.board.value;
+      history = history_of note.token.me.0;
     } };
 
     ghost invariant = { λ note.
         (note.token.table_id ≡ note.board.value.table)
         × (note.token.me
-            ≡ (NoteView (origin_of note.board.value) (history_of note.token.me.0), [])) };
+        ≡ (NoteView (origin_of note.board.value) (history_of note.token.me.0), [])) };
 }

@@ -32,7 +32,7 @@ impl<L: Law> Model for Pen<L> {
         (pen.token.table_id ≡ pen.board.value.table)
         × (pen.token.me ≡ (PenView (origin_of pen.board.value) (history_of pen.token.me.0) [], []))
         × IsLawful
-            (L.allows pen.board.value.law) pen.board.value.first (history_of pen.token.me.0) };
+        (L.allows pen.board.value.law) pen.board.value.first (history_of pen.token.me.0) };
 }
 
 impl<L: Law> Pen<L> {

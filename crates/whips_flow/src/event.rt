@@ -49,14 +49,3 @@ impl Event {
         )
     }
 }
-
-#[cfg(test)]
-mod tests {
-    use super::Event;
-
-    #[test]
-    fn tells_the_pipeline_from_sessions(rt: HostRuntime) {
-        assert!(rt; Event::Rel.is_pipeline());
-        assert!(rt; !Event::SessionFetch(0, 64).is_pipeline());
-    }
-}

@@ -9,8 +9,6 @@
 mod memory;
 mod outside;
 mod stream;
-#[cfg(test)]
-mod tests;
 mod whole;
 
 pub use memory::{MemSink, MemSource, SINK_ROOM};

@@ -46,11 +46,11 @@ impl Model for MemSource {
     ghost Value = { SourceState };
 
     ghost view = { λ s. record {
-        left = drop s.at s.bytes.items;
-        max_piece = s.max_piece;
-        fails = s.fails.items;
-        calls = s.calls;
-        faults = s.faults
+      left = drop s.at s.bytes.items;
+      max_piece = s.max_piece;
+      fails = s.fails.items;
+      calls = s.calls;
+      faults = s.faults;
     } };
 
     ghost invariant = { λ s. (s.at ≤ length s.bytes.items) × (0 < s.max_piece) };
@@ -62,11 +62,11 @@ impl MemSource {
     pub fn new(bytes: Vec<u8>, max_piece: usize, fails: Vec<u64>) -> MemSource
         requires { 0 < max_piece }
         ensures { result ≡ record {
-            left = bytes.items;
-            max_piece = max_piece;
-            fails = fails.items;
-            calls = 0;
-            faults = 0
+          left = bytes.items;
+          max_piece = max_piece;
+          fails = fails.items;
+          calls = 0;
+          faults = 0;
         } }
     {
         MemSource {
@@ -99,12 +99,12 @@ impl Source for MemSource {
             n ≡ min (length buf.old) (min self.old.max_piece (length self.old.left))) }
         ensures buf { IfOk result (λ n. buf.new ≡ take n self.old.left ++ drop n buf.old) }
         ensures ok { IfOk result (λ n. self.new ≡ record self.old {
-            left = drop n self.old.left;
-            calls = next_count self.old.calls
+          left = drop n self.old.left;
+          calls = next_count self.old.calls;
         }) }
         ensures err { OnErr result (self.new ≡ record self.old {
-            calls = next_count self.old.calls;
-            faults = next_count self.old.faults
+          calls = next_count self.old.calls;
+          faults = next_count self.old.faults;
         }) }
     {
         let fails = is_next_among(&self.fails, self.calls);
@@ -139,11 +139,11 @@ impl Model for MemSink {
     ghost Value = { SinkState };
 
     ghost view = { λ s. record {
-        written = s.bytes.items;
-        max_piece = s.max_piece;
-        fails = s.fails.items;
-        calls = s.calls;
-        faults = s.faults
+      written = s.bytes.items;
+      max_piece = s.max_piece;
+      fails = s.fails.items;
+      calls = s.calls;
+      faults = s.faults;
     } };
 
     ghost invariant = { λ s. (1048576 ≤ vec_capacity s.bytes) × (0 < s.max_piece) };
@@ -156,11 +156,11 @@ impl MemSink {
     pub fn new(alloc: Global, max_piece: usize, fails: Vec<u64>) -> Result<MemSink, NoMemory>
         requires { 0 < max_piece }
         ensures { IfOk result (λ sink. sink ≡ record {
-            written = [];
-            max_piece = max_piece;
-            fails = fails.items;
-            calls = 0;
-            faults = 0
+          written = [];
+          max_piece = max_piece;
+          fails = fails.items;
+          calls = 0;
+          faults = 0;
         }) }
     {
         let bytes = Vec::with_capacity(alloc, SINK_ROOM)?;
@@ -212,12 +212,12 @@ impl Sink for MemSink {
             ⊎ (SINK_ROOM < length self.old.written + min (length piece.now) self.old.max_piece)) }
         ensures piece { IfOk result (λ n. n ≡ min (length piece.now) self.old.max_piece) }
         ensures ok { IfOk result (λ n. self.new ≡ record self.old {
-            written = self.old.written ++ take n piece.now;
-            calls = next_count self.old.calls
+          written = self.old.written ++ take n piece.now;
+          calls = next_count self.old.calls;
         }) }
         ensures err { OnErr result (self.new ≡ record self.old {
-            calls = next_count self.old.calls;
-            faults = next_count self.old.faults
+          calls = next_count self.old.calls;
+          faults = next_count self.old.faults;
         }) }
     {
         let n = piece.len().min(self.max_piece);

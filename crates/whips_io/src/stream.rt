@@ -31,9 +31,9 @@ impl<R: Read + Drop> Model for StdSource<R> {
     ghost Value = { StreamState };
 
     ghost view = { λ s. record {
-        known = R.remaining s.reader;
-        calls = s.calls;
-        faults = s.faults
+      known = R.remaining s.reader;
+      calls = s.calls;
+      faults = s.faults;
     } };
 }
 
@@ -94,9 +94,9 @@ impl<W: Write + Drop> Model for StdSink<W> {
     ghost Value = { StreamState };
 
     ghost view = { λ s. record {
-        known = W.contents s.writer;
-        calls = s.calls;
-        faults = s.faults
+      known = W.contents s.writer;
+      calls = s.calls;
+      faults = s.faults;
     } };
 }
 

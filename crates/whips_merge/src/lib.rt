@@ -5,8 +5,6 @@ mod form;
 mod lists;
 mod merge;
 mod paint;
-#[cfg(test)]
-mod tests;
 
 pub use lists::{ActionLists, Numbers, Transaction};
 pub use merge::Merge;

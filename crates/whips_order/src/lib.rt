@@ -3,8 +3,6 @@
 
 mod integrator;
 mod message;
-#[cfg(test)]
-mod tests;
 
 pub use integrator::Integrator;
 pub use message::{Forward, Message};

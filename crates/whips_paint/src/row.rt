@@ -27,10 +27,10 @@ impl Model for Row {
     ghost Value = { PaintedRow };
 
     ghost view = { λ r. record {
-        number = r.number;
-        source = r.source;
-        place = r.place;
-        entries = map entry_colour r.entries.items
+      number = r.number;
+      source = r.source;
+      place = r.place;
+      entries = map entry_colour r.entries.items;
     } };
 }
 
@@ -38,10 +38,10 @@ impl Row {
     /// The row of a transaction with these entries.
     pub(crate) fn new(number: u64, source: u32, place: u64, entries: Vec<Entry>) -> Row
         ensures { result ≡ record {
-            number = number;
-            source = source;
-            place = place;
-            entries = map entry_colour entries.items
+          number = number;
+          source = source;
+          place = place;
+          entries = map entry_colour entries.items;
         } }
     {
         Row {

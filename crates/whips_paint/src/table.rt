@@ -7,8 +7,8 @@ ghost use Rattle.whips_flow.specs.State.{new_table};
 ghost use Rattle.whips_paint.specs.Table.{ViewTable, IsInOrder, with_rows, new_row, placed_row, ready_numbers, ready_rows, rows_left};
 
 use crate::NoMemory;
-use crate::entry::entries_of;
 use crate::closure::{closure_numbers, copy_rows, first_ready, remove_rows};
+use crate::entry::entries_of;
 use crate::row::Row;
 use std::alloc::Global;
 use std::marker::Model;
@@ -72,9 +72,9 @@ impl Table {
         requires there { All (λ x. x < self.old.views) concerned.now.items }
         requires once { AllPairs (λ x y. x ≢ y) concerned.now.items }
         ensures ok { OnOk result (self.new ≡ record self.old {
-            table = with_row
-                (new_row self.old.views number source concerned.now.items)
-                self.old.table
+          table = with_row
+              (new_row self.old.views number source concerned.now.items)
+              self.old.table;
         }) }
         ensures err { OnErr result (self.new ≡ self.old) }
     {
@@ -94,9 +94,9 @@ impl Table {
         requires there { All (λ x. x < self.old.views) concerned.now }
         requires once { AllPairs (λ x y. x ≢ y) concerned.now }
         ensures ok { OnOk result (self.new ≡ record self.old {
-            table = with_row
-                (placed_row self.old.views number source place concerned.now)
-                self.old.table
+          table = with_row
+              (placed_row self.old.views number source place concerned.now)
+              self.old.table;
         }) }
         ensures err { OnErr result (self.new ≡ self.old) }
     {
@@ -153,54 +153,5 @@ impl Table {
         let copies = copy_rows(alloc, &self.rows, &numbers)?;
         remove_rows(&mut self.rows, &numbers);
         Ok(Some(copies))
-    }
-}
-
-#[cfg(test)]
-mod tests {
-    use super::*;
-    use std::process::Abort;
-    use std::test::Fail;
-
-    /// Takes the ready rows and compares their numbers; none are wanted where none is ready.
-    fn expect_taken(rt: &impl Abort, table: &mut Table, want: &[u64]) -> Result<(), Fail>
-        ensures views { OnOk result (table.new.views ≡ table.old.views) }
-        ensures last { OnOk result (table.new.table.last_announced ≡ table.old.table.last_announced) }
-    {
-        match table.take_ready()? {
-            Some(numbers) => assert_eq!(rt; numbers.as_slice(), want),
-            None => assert_eq!(rt; want.len(), 0),
-        }
-        Ok(())
-    }
-
-    #[test]
-    fn rows_of_different_views_leave_in_order(rt: HostRuntime) -> Result<(), Fail> {
-        let mut table = Table::new(rt.alloc(), 2)?;
-        assert_eq!(rt; table.told(), 0);
-        table.add_row(1, 0, &vec![in rt.alloc(); 0]?)?;
-        assert!(rt; table.told() < 2);
-        table.add_row(2, 0, &vec![in rt.alloc(); 1]?)?;
-        table.paint(1, 2);
-        expect_taken(&rt, &mut table, &[])?;
-        table.paint(0, 2);
-        expect_taken(&rt, &mut table, &[1])?;
-        expect_taken(&rt, &mut table, &[2])?;
-        expect_taken(&rt, &mut table, &[])?;
-        assert_eq!(rt; table.told(), 2);
-        Ok(())
-    }
-
-    #[test]
-    fn rows_of_one_list_leave_together(rt: HostRuntime) -> Result<(), Fail> {
-        let mut table = Table::new(rt.alloc(), 2)?;
-        table.add_row(1, 0, &vec![in rt.alloc(); 0, 1]?)?;
-        table.add_row(2, 1, &vec![in rt.alloc(); 0]?)?;
-        table.paint(0, 2);
-        expect_taken(&rt, &mut table, &[])?;
-        table.paint(1, 1);
-        expect_taken(&rt, &mut table, &[1, 2])?;
-        expect_taken(&rt, &mut table, &[])?;
-        Ok(())
     }
 }

@@ -46,16 +46,3 @@ impl Picker {
         (self.state >> 16) % count
     }
 }
-
-#[cfg(test)]
-mod tests {
-    use super::*;
-
-    #[test]
-    fn picks_by_the_high_bits_of_each_state(rt: HostRuntime) {
-        let mut picker = Picker::new(0);
-        for want in [15470, 18256, 53708, 43769] {
-            assert_eq!(rt; picker.pick(65536), want);
-        }
-    }
-}

@@ -4,8 +4,6 @@
 
 mod first;
 mod plain;
-#[cfg(test)]
-mod tests;
 mod views;
 
 pub use plain::Plain;

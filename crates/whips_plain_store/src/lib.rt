@@ -3,8 +3,6 @@
 
 mod change;
 mod need;
-#[cfg(test)]
-mod tests;
 mod view;
 
 pub use view::PlainView;

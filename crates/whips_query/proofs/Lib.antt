@@ -1,4 +1,3 @@
 pub mod Ordered
 pub mod Stepped
 pub mod Extended
-pub mod Worked

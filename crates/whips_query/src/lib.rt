@@ -6,8 +6,6 @@ mod answers;
 mod asks;
 mod choice;
 mod rows;
-#[cfg(test)]
-mod tests;
 
 pub use answers::{extend, extend_on};
 pub use asks::{Ask, Reply, Step, steps};

@@ -3,8 +3,6 @@
 
 mod answer;
 mod lines;
-#[cfg(test)]
-mod tests;
 mod top;
 
 pub use top::{Ended, run};

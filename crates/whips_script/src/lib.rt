@@ -6,8 +6,6 @@
 
 mod made;
 mod script;
-#[cfg(test)]
-mod tests;
 
 pub use script::{Script, ScriptErr, read_script};
 pub use whips_forms::Text;

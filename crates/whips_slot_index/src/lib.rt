@@ -3,8 +3,6 @@
 
 mod index;
 mod slots;
-#[cfg(test)]
-mod tests;
 
 pub use index::SlotIndex;
 pub use slots::{find_slot, row_shown, slot_shown, versions_used};

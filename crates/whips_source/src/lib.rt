@@ -5,8 +5,6 @@
 mod held;
 mod made;
 mod site;
-#[cfg(test)]
-mod tests;
 
 pub use held::Held;
 pub use site::{LogEntry, Site};

@@ -8,8 +8,6 @@ mod command;
 mod rows;
 mod start;
 mod stop;
-#[cfg(test)]
-mod tests;
 mod transactions;
 
 use crate::command::{Size, read_size};

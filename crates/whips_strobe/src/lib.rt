@@ -7,7 +7,5 @@ mod manager;
 mod routed;
 mod state;
 mod strike;
-#[cfg(test)]
-mod tests;
 
 pub use manager::{Manager, Out};

@@ -5,8 +5,6 @@
 
 mod columns;
 mod conds;
-#[cfg(test)]
-mod tests;
 mod view;
 
 pub use view::{ViewForm, read_views};

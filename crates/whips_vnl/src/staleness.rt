@@ -21,36 +21,3 @@ pub fn unexpired_versions()
     ensures quiet { (n v c : ℕ) → 2 ≤ n → v ≤ c → (¬ IsStale n v (2 * c)) ↔ (c - (n - 1) ≤ v) }
     ensures active { (n v c : ℕ) → 2 ≤ n → v ≤ c → (¬ IsStale n v (2 * c + 1)) ↔ (c - (n - 2) ≤ v) }
 {}
-
-#[cfg(test)]
-mod tests {
-    use super::*;
-
-    #[test]
-    fn expires_by_phase_and_kept_versions(rt: HostRuntime) {
-        let two = [false, false, false, true, true, true, true];
-        let three = [false, false, false, false, false, true, true];
-        let mut phase = 0;
-        for (with_two, with_three) in two.iter().zip(&three) {
-            assert_eq!(rt; stale(0, phase, 2), *with_two, "two versions at {phase}");
-            assert_eq!(rt;
-                stale(0, phase, 3),
-                *with_three,
-                "three versions at {phase}"
-            );
-            assert_eq!(rt; stale(0, phase, 4), false, "four versions at {phase}");
-            phase = phase.wrapping_add(1);
-        }
-        assert_eq!(rt; stale(0, 7, 4), true);
-        assert_eq!(rt; stale(1, 4, 2), false);
-        assert_eq!(rt; stale(1, 5, 2), true);
-    }
-
-    #[test]
-    fn is_exact_at_the_greatest_numbers(rt: HostRuntime) {
-        assert_eq!(rt; stale(u64::MAX, u64::MAX, 2), false);
-        assert_eq!(rt; stale(0, u64::MAX, 4), true);
-        assert_eq!(rt; stale(9_223_372_036_854_775_806, u64::MAX, 2), true);
-        assert_eq!(rt; stale(9_223_372_036_854_775_807, u64::MAX, 2), false);
-    }
-}
