@@ -56,8 +56,10 @@ fn insert_row(alloc: Global, relation: &mut Relation, value: &Value) -> Result<T
     ensures ok { IfOk result (λ t. (new_row_in relation.old.columns relation.old.rows
         (view value.now) ≡ Some t)
         × (relation.new
-            ≡ record relation.old { rows = put_row relation.old.columns.key t
-            relation.old.rows })) }
+        ≡ record relation.old {
+          rows = put_row relation.old.columns.key t
+              relation.old.rows;
+        })) }
     ensures refused { IfErr result (λ e. e ≢ ReadErr.NoMemory
         → new_row_in relation.old.columns relation.old.rows (view value.now) ≡ None) }
 {
@@ -74,8 +76,10 @@ fn insert_row(alloc: Global, relation: &mut Relation, value: &Value) -> Result<T
 fn delete_row(alloc: Global, relation: &mut Relation, value: &Value) -> Result<Tuple, ReadErr>
     ensures ok { IfOk result (λ t. (named_row_in relation.old.columns relation.old.rows
         (view value.now) ≡ Some t)
-        × (relation.new ≡ record relation.old { rows = without_key relation.old.columns.key
-            (at_columns relation.old.columns.key t) relation.old.rows })) }
+        × (relation.new ≡ record relation.old {
+          rows = without_key relation.old.columns.key
+              (at_columns relation.old.columns.key t) relation.old.rows;
+        })) }
     ensures refused { IfErr result (λ e. e ≢ ReadErr.NoMemory
         → named_row_in relation.old.columns relation.old.rows (view value.now) ≡ None) }
 {

@@ -108,11 +108,13 @@ module _ {X Y : Type 0} (f : X → List Y) where
 module _ {X : Type 0} where
   pub distinct_more : (x : X) (xs : List X) → AreDistinct xs → (Has x xs → ⊥) → AreDistinct (xs ++ x ∷ [])
   distinct_more x [] d h = (has_none x, tt)
-  distinct_more x (y ∷ xs) d h =
-      (λ k. elim (has_either y xs (x ∷ []) k) [
-        | inl g ↦ d.0 g
-        | inr g ↦ elim (has_cases y x [] g) [ inl e ↦ h (subst (λ z. Has z (y ∷ xs)) e (has_first y xs)) | inr g ↦ has_none y g ]
-      ], distinct_more x xs d.1 (λ k. h (has_later x y xs k)))
+  distinct_more x (y ∷ xs) d h = (
+    λ k. elim (has_either y xs (x ∷ []) k) [
+      | inl g ↦ d.0 g
+      | inr g ↦ elim (has_cases y x [] g) [ inl e ↦ h (subst (λ z. Has z (y ∷ xs)) e (has_first y xs)) | inr g ↦ has_none y g ]
+    ],
+    distinct_more x xs d.1 (λ k. h (has_later x y xs k)),
+  )
 
   pub distinct_filter : (test : X → Bool) (xs : List X) → AreDistinct xs → AreDistinct (filter test xs)
   distinct_filter test [] d = tt

@@ -2,6 +2,7 @@
 //! list covers, from 1 up to all. A merge of two views is told of all transactions before the first list comes, and the line
 //! that the program writes counts what the merge handed out.
 #![tactic(auto)]
+
 ghost use Rattle.std.specs.Prelude.{◌≤◌, IfSome};
 
 mod data;

@@ -160,12 +160,12 @@ impl Queries {
     ) -> Result<(), NoMemory>
         requires { AllByRecursion (IsNamedBelow (transaction ∷ origin ∷ [])) self.old }
         ensures ok { OnOk result (self.new ≡ self.old ++ record {
-            transaction = transaction;
-            origin = origin;
-            step = 1;
-            seeds = seeds;
-            partials = partials;
-            pending = []
+          transaction = transaction;
+          origin = origin;
+          step = 1;
+          seeds = seeds;
+          partials = partials;
+          pending = [];
         } ∷ []) }
         ensures err { OnErr result (self.new ≡ self.old) }
     {

@@ -85,8 +85,8 @@ impl Integrator {
             update
             (concerned_views setup.now.views update)) }
         ensures counted { OnOk result (self.new ≡ record {
-            total = suc self.old.total;
-            places = slice_set self.old.places source (suc (slice_index self.old.places source))
+          total = suc self.old.total;
+          places = slice_set self.old.places source (suc (slice_index self.old.places source));
         }) }
         ensures err { OnErr result (self.new ≡ self.old) }
     {
@@ -115,7 +115,7 @@ impl Integrator {
         ensures counted { (numbering : List NumberedTransaction)
             → self.old ≡ counts_of setup.now.sources numbering
             → OnOk result
-                (self.new ≡ counts_of setup.now.sources (numbering_after source m numbering)) }
+            (self.new ≡ counts_of setup.now.sources (numbering_after source m numbering)) }
         ensures sources { length self.new.places ≡ length self.old.places }
         ensures err { OnErr result (self.new ≡ self.old) }
     {

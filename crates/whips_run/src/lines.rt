@@ -5,8 +5,15 @@ ghost use Rattle.std.specs.Fmt.{decimal};
 ghost use Rattle.serde_json.specs.View.{view};
 ghost use Rattle.serde_json.specs.Written.{compact_text};
 ghost use Rattle.whips_reports.specs.Lines.{words, counts_words};
-ghost use Rattle.whips_run.specs.Lines.{number_row, final_line, view_line, number_line, view_text, views_text,
-    final_text};
+ghost use Rattle.whips_run.specs.Lines.{
+  number_row,
+  final_line,
+  view_line,
+  number_line,
+  view_text,
+  views_text,
+  final_text,
+};
 
 use serde_json::Value;
 use std::alloc::{AllocError, Global};

@@ -37,16 +37,16 @@ pub fn run<I: Source, O: Sink>(
     // The call ends as its words and its input say, and has written that text.
     ensures ended { result.status ≢ 5 → result.status ≢ 6 → (o : Outcome)
         × IsOutcome (map string_bytes words.now.items) (I.left input.old) (I.left input.new)
-            (I.faults input.old) (I.faults input.new) o
+        (I.faults input.old) (I.faults input.new) o
         × (result.status ≡ status_of o) × Appends (O.written output.old) (O.written output.new)
-            (text_of o) }
+        (text_of o) }
 
     // The sink failed, and has taken a part of that text.
     ensures sink_failed { result.status ≡ 5 → (o : Outcome) × (n : ℕ)
         × IsOutcome (map string_bytes words.now.items) (I.left input.old) (I.left input.new)
-            (I.faults input.old) (I.faults input.new) o
+        (I.faults input.old) (I.faults input.new) o
         × (n < length (text_of o)) × Appends (O.written output.old) (O.written output.new)
-            (take n (text_of o))
+        (take n (text_of o))
         × HasRisen (O.faults output.old) (O.faults output.new) }
 
     // There was no memory, and nothing is written.
@@ -84,7 +84,7 @@ fn end_with<O: Sink>(status: u8, text: &str, output: &mut O) -> Ended
         × Appends (O.written output.old) (O.written output.new) text.now }
     ensures sink_failed { result.status ≡ 5 → status ≢ 5 → (n : ℕ) × (n < length text.now)
         × Appends (O.written output.old) (O.written output.new) (take n text.now)
-            × HasRisen (O.faults output.old) (O.faults output.new) }
+        × HasRisen (O.faults output.old) (O.faults output.new) }
 {
     match write_all(output, text.as_bytes()) {
         Ok(()) => Ended { status },

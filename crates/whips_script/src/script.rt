@@ -115,8 +115,8 @@ fn make_setup(
         × (setup_refusal (map (λ r. r.table.columns) sources.now.relations) s ≡ None)) }
     ensures refused { IfErr result (λ e. e ≢ ReadErr.NoMemory
         → is_some (setup_refusal (map (λ r. r.table.columns) sources.now.relations)
-            (setup_of (length sources.now.names) sources.now.homes
-            (initial_of sources.now) defs.items slots.items)) ≡ true) }
+        (setup_of (length sources.now.names) sources.now.homes
+        (initial_of sources.now) defs.items slots.items)) ≡ true) }
 {
     let schemas = schemas_of(alloc, &sources.relations)?;
     let initial = initial_relations(alloc, &sources.relations)?;

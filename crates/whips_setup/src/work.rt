@@ -47,7 +47,7 @@ impl Workload {
             × IsWorkload setup.now w) }
         ensures refused { IfErr result (λ e. e ≢ WorkErr.NoMemory
             → option_map without_item (work_refusal setup.now
-                (one_each (map (λ list. list.items) updates.items))) ≡ Some e) }
+            (one_each (map (λ list. list.items) updates.items))) ≡ Some e) }
     {
         match Workload::batched(setup, all_singles(alloc, updates)?) {
             Ok(workload) => Ok(workload),

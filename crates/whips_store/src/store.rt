@@ -44,8 +44,11 @@ pub trait Store {
     /// The rows of the view at the committed version.
     fn current(&self, x: u32) -> &Rows
         requires { x < length (state self.now).views }
-        ensures { result.now ≡ record { columns = (view_in (state self.now) x).columns; rows =
-            (view_in (state self.now) x).current } };
+        ensures { result.now ≡ record {
+          columns = (view_in (state self.now) x).columns;
+          rows =
+              (view_in (state self.now) x).current;
+        } };
 
     /// The number of changes that are still to be made.
     fn left(&self) -> u64

@@ -46,10 +46,10 @@ impl Model for Manager {
     ghost Value = { ManagerData };
 
     ghost view = { λ m. record {
-        number = m.view_number;
-        view = m.view;
-        stopped = m.stopped;
-        state = m.state
+      number = m.view_number;
+      view = m.view;
+      stopped = m.stopped;
+      state = m.state;
     } };
 
     ghost invariant = { λ m. m.stopped ≡ false → IsStateOf m.view m.state };
@@ -59,10 +59,10 @@ impl Manager {
     /// The manager of view number `x`, which has taken nothing yet.
     pub fn new(alloc: Global, x: u32, view: &ViewDef) -> Result<Manager, NoMemory>
         ensures { IfOk result (λ m. m ≡ record {
-            number = x;
-            view = view.now;
-            stopped = false;
-            state = new_manager 0
+          number = x;
+          view = view.now;
+          stopped = false;
+          state = new_manager 0;
         }) }
     {
         Ok(Manager {
@@ -83,7 +83,7 @@ impl Manager {
         requires later { self.old.state.last < number }
         requires widths { HaveWidths (keyed self.old.view) (widths_of self.old.view) t.now }
         ensures state { OnOk result (self.new ≡ record self.old {
-            state = without_list (after_transaction self.old number t.now)
+          state = without_list (after_transaction self.old number t.now);
         }) }
         ensures asks { IfOk result (λ out.
             out.asks.items ≡ asks_begun self.old (after_transaction self.old number t.now)) }
@@ -116,7 +116,7 @@ impl Manager {
     pub fn reply(&mut self, r: Reply) -> Result<Out, NoMemory>
         requires { FitsManager self.old r }
         ensures state { OnOk result (self.new ≡ record self.old {
-            state = without_list (after_reply self.old r)
+          state = without_list (after_reply self.old r);
         }) }
         ensures asks { IfOk result (λ out. out.asks.items ≡ asks_on self.old r) }
         ensures list { IfOk result (λ out.

@@ -103,8 +103,8 @@ impl State {
         requires whole { AllByRecursion (IsWhole (length view.now.bases)) partials.now }
         requires keys { AllDifferInKey (map (λ b. b.key) view.now.bases) partials.now }
         ensures { OnOk result (self.new ≡ record self.old {
-            actions = self.old.actions
-                ++ put_of (keyed view.now) (row_columns view.now) partials.now ∷ []
+          actions = self.old.actions
+              ++ put_of (keyed view.now) (row_columns view.now) partials.now ∷ [];
         }) }
     {
         let rows = project(view.alloc(), view.plain(), partials)?;
@@ -138,12 +138,7 @@ impl State {
     }
 
     /// The insertion of what a transaction gives each part.
-    fn insert_all(
-        &mut self,
-        view: &RoutedView,
-        number: u64,
-        t: &Trans,
-    ) -> Result<(), NoMemory>
+    fn insert_all(&mut self, view: &RoutedView, number: u64, t: &Trans) -> Result<(), NoMemory>
         requires { AllByRecursion (λ q. q.transaction < number) self.old.queries }
         ensures { OnOk result (self.new ≡ with_all_given
             (keyed view.now) (row_columns view.now) self.old number
@@ -221,7 +216,7 @@ impl State {
         requires place { i < length self.old.queries }
         requires step { IfSome (slice_get self.old.queries i) (λ q. q.step + 1 < 2 ^ 32) }
         ensures state { OnOk result (self.new ≡ record self.old {
-            queries = changed_at i (λ q. moved_on q partials) self.old.queries
+          queries = changed_at i (λ q. moved_on q partials) self.old.queries;
         }) }
         ensures ask { IfOk result (λ sent. IfSome (slice_get self.old.queries i) (λ q.
             sent ≡ sent_by number (ask_of (keyed view.now) (moved_on q partials)))) }
@@ -233,22 +228,17 @@ impl State {
 
     /// The query at place `i` is closed: the choices that have a pending key are struck, and the rows of the others are
     /// put.
-    fn finish(
-        &mut self,
-        view: &RoutedView,
-        i: usize,
-        partials: &Partials,
-    ) -> Result<(), NoMemory>
+    fn finish(&mut self, view: &RoutedView, i: usize, partials: &Partials) -> Result<(), NoMemory>
         requires place { i < length self.old.queries }
         requires whole { AllByRecursion (IsWhole (length view.now.bases)) partials.now }
         requires wide { AllByRecursion (HasWidths (widths_of view.now)) partials.now }
         requires keys { AllDifferInKey (map (λ b. b.key) view.now.bases) partials.now }
         ensures { OnOk result (IfSome (slice_get self.old.queries i) (λ q.
             self.new ≡ record self.old {
-                actions = self.old.actions
-                    ++ put_of (keyed view.now) (row_columns view.now)
-                        (unstruck (keyed view.now) q.pending partials.now) ∷ [];
-                queries = remove self.old.queries i
+              actions = self.old.actions
+                  ++ put_of (keyed view.now) (row_columns view.now)
+                  (unstruck (keyed view.now) q.pending partials.now) ∷ [];
+              queries = remove self.old.queries i;
             })) }
     {
         let left = unstruck(view, &self.queries, i, partials)?;
@@ -258,11 +248,7 @@ impl State {
     }
 
     /// Takes the reply: its query is asked at its next step, or after the last step it is closed and its rows are put.
-    pub fn take_reply(
-        &mut self,
-        view: &RoutedView,
-        r: Reply,
-    ) -> Result<Vec<(u32, Ask)>, NoMemory>
+    pub fn take_reply(&mut self, view: &RoutedView, r: Reply) -> Result<Vec<(u32, Ask)>, NoMemory>
         requires fits { Fits
             (keyed view.now) (widths_of view.now) self.old r.update r.origin r.step r.partials }
         requires queries { AllCanAsk (keyed view.now) (widths_of view.now) self.old.queries }
