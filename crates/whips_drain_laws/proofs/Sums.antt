@@ -1,8 +1,7 @@
 -- Sums over lists of which one element changes.
-use Rattle.std.proofs.Common.{◌≡◌, ℕ, zero, suc, ◌+◌, ◌≤◌, List, [], ◌∷◌, ◌++◌, length, Option, Some, None, refl, ap, arith}
+use Rattle.std.proofs.Common.{◌≡◌, ℕ, zero, suc, ◌+◌, ◌≤◌, List, [], ◌∷◌, ◌++◌, length, Some, ap, arith}
 use Rattle.std.specs.Prelude.{slice_get}
 use Rattle.whips_lists.specs.Lists.{changed_at, map_with_place, sum_with_place, front, without_front, places_from, total}
-use Rattle.std.specs.Option.{option_and_then}
 use Rattle.whips_lists.proofs.Options.{some_same, none_some}
 use Rattle.whips_lists.proofs.Lists.{front_is}
 

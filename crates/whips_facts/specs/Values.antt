@@ -1,5 +1,5 @@
 -- What the values of views during a run are, as statements on the definitions.
-use Rattle.std.specs.Prelude.{◌≡◌, ℕ, ◌<◌, max, ◌==◌, List, [], ◌∷◌, ◌++◌, length, take, drop, map, filter, fold, slice_get, Option, Some, None}
+use Rattle.std.specs.Prelude.{◌≡◌, ℕ, ◌<◌, max, List, [], ◌∷◌, ◌++◌, length, take, drop, map, fold, slice_get, Option, Some, None}
 use Rattle.std.specs.List.{AllByRecursion, flat_map}
 use Rattle.whips_lists.specs.Members.{Has}
 use Rattle.whips_model.specs.Tuples.{Codes}

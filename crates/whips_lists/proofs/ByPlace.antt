@@ -1,7 +1,7 @@
 -- Elements of lists, and lists of which one element changes.
-use Rattle.std.proofs.Common.{◌≡◌, ℕ, zero, suc, ◌+◌, ◌<◌, ◌≤◌, Bool, true, false, not, List, [], ◌∷◌, ◌++◌, length, Option, Some, None, cond, refl, sym, ap, subst, ◌∙◌, arith, ◌⊎◌, inl, inr}
+use Rattle.std.proofs.Common.{◌≡◌, ℕ, zero, suc, ◌+◌, ◌<◌, ◌≤◌, Bool, true, false, not, List, [], ◌∷◌, ◌++◌, length, Some, None, cond, refl, sym, ap, subst, ◌∙◌, arith, ◌⊎◌, inl, inr}
 use Rattle.std.specs.Prelude.{slice_get, map, filter, find, replicate}
-use Rattle.whips_lists.specs.Lists.{changed_at, map_with_place, front, without_front}
+use Rattle.whips_lists.specs.Lists.{changed_at, map_with_place}
 use Rattle.std.specs.Option.{option_and_then}
 use Rattle.whips_lists.proofs.InList.{In}
 use Rattle.whips_lists.proofs.Options.{some_same}

@@ -1,7 +1,6 @@
 -- What a manager asks, which open queries can be asked, which transactions have tuples of their relations' widths, and which replies fit.
-use Rattle.std.specs.Prelude.{◌≡◌, ℕ, ◌+◌, ◌<◌, ◌≤◌, ◌==◌, ◌&&◌, Bool, true, cond, List, [], ◌∷◌, length, map, drop, Some, None, is_some, slice_index, slice_index_or}
+use Rattle.std.specs.Prelude.{◌≡◌, ℕ, ◌+◌, ◌<◌, ◌≤◌, ◌==◌, ◌&&◌, Bool, true, cond, List, [], ◌∷◌, length, map, drop, slice_index}
 use Rattle.std.specs.List.{list_any, AllByRecursion}
-use Rattle.whips_model.specs.Tuples.{Codes}
 use Rattle.whips_choices.specs.KeyedViews.{KeyedView}
 use Rattle.whips_choices.specs.Partials.{Partial}
 use Rattle.whips_rel.specs.declared.update.Update.{Update}

@@ -5,7 +5,7 @@
 -- The idea: the machine takes a row set while one is ready, at most as often as there are rows (`with_ready_taken`). Its turns are two functions of the rows alone, the sets that leave and the rows that stay (`machine_taken`). The code forms each set's transaction as it takes it, so `Forming` says after each turn that what is left of both functions, with what was formed, gives all.
 --
 -- Four lemmas carry it: `machine_taken`, `forming_goes_on` (one turn more), `stopped_formed` (no row is ready) and `settled_is` (the turns together).
-use Rattle.std.proofs.Common.{◌≡◌, ℕ, zero, suc, ◌+◌, ◌-◌, ◌<◌, List, [], ◌∷◌, ◌++◌, length, map, drop, set, get_or, false, Option, Some, None, refl, sym, ap, ap₂, subst, ◌∙◌, arith, append-nil, append_assoc}
+use Rattle.std.proofs.Common.{◌≡◌, ℕ, zero, suc, ◌+◌, ◌-◌, ◌<◌, List, [], ◌∷◌, ◌++◌, length, map, drop, set, get_or, Option, Some, None, refl, sym, ap, ap₂, subst, ◌∙◌, arith, append-nil, append_assoc}
 use Rattle.std.specs.Prelude.{fold}
 use Rattle.std.proofs.lemmas.List.{map-append}
 use Rattle.std.specs.Option.{option_map}

@@ -1,5 +1,5 @@
 -- What a merge holds, and the state that its callers see in it.
-use Rattle.std.specs.Prelude.{◌≡◌, ℕ, ◌≤◌, false, List, length, map, None}
+use Rattle.std.specs.Prelude.{◌≡◌, ◌≤◌, false, List, length, map, None}
 use Rattle.whips_flow.specs.Painted.{Row}
 use Rattle.whips_paint.specs.Table.{ready_numbers}
 use Rattle.whips_merge.specs.declared.form.Waiting.{Waiting}

@@ -1,5 +1,5 @@
 -- The order in which the integrator takes transactions, and what it hands on.
-use Rattle.std.specs.Prelude.{ℕ, suc, ◌==◌, Bool, false, List, [], ◌∷◌, ◌++◌, length, map, filter, slice_get, Option, Some, None}
+use Rattle.std.specs.Prelude.{ℕ, suc, Bool, false, List, [], ◌∷◌, ◌++◌, length, map, filter, slice_get, Option, Some, None}
 use Rattle.whips_states.specs.States.{Updates}
 use Rattle.whips_states.specs.Concerns.{concerns}
 use Rattle.whips_view.specs.ViewDefs.{View}

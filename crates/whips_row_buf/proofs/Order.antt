@@ -2,16 +2,16 @@
 use Rattle.std.proofs.Common.{◌≡◌, ◌≢◌, ℕ, zero, suc, ◌+◌, ◌<◌, ◌≤◌, Bool, true, false, List, [], ◌∷◌, ◌++◌, length, get_or, refl, sym, ap, subst, ◌∙◌, arith, ◌⊎◌, inl, inr}
 use Rattle.std.specs.Prelude.{Result, Ok, Err, IsOk, is_ok, if◌then◌else◌}
 use Rattle.std.proofs.Common.{length-append}
-use Rattle.std.specs.List.{insert, AllByRecursion, AllWithin}
+use Rattle.std.specs.List.{insert, AllByRecursion}
 use Rattle.std.specs.List.Sorted.{IsPartitionedBy, IsPartitionPoint}
 use Rattle.std.specs.Ordering.{is_le, match_ordering}
 use Rattle.std.specs.declared.cmp.Ordering.{Ordering}
 use Rattle.std.specs.declared.cmp.Ordering.TheVariants.{Less, Equal, Greater}
 use Rattle.std.proofs.lemmas.Cmp.{nat_list_cmp_total}
 use Rattle.whips_model.specs.Tuples.{Codes, codes_cmp, at_columns}
-use Rattle.whips_model.proofs.Keyed.{codes_reverse, codes_trans, less_from_greater, greater_from_less, all_at}
+use Rattle.whips_model.proofs.Keyed.{codes_trans, less_from_greater, greater_from_less, all_at}
 use Rattle.whips_row_buf.specs.Buffers.{Buffer, IsBuffer, IsOrdered, put_behind}
-use Rattle.whips_lists.proofs.Alls.{all_left, all_right, all_append, all_more}
+use Rattle.whips_lists.proofs.Alls.{all_left}
 
 cases_same : (i j : ℕ) → i ≤ j → (i ≡ j) ⊎ (i < j)
 cases_same zero zero le = inl refl

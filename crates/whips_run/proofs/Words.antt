@@ -1,5 +1,5 @@
 -- Words behind what stands before them.
-use Rattle.std.proofs.Common.{◌≡◌, List, ℕ, [], ◌∷◌, ◌++◌, refl, append_assoc}
+use Rattle.std.proofs.Common.{◌≡◌, List, [], ◌∷◌, ◌++◌, refl, append_assoc}
 use Rattle.whips_facts.specs.Scripts.{Bytes}
 use Rattle.whips_reports.specs.Lines.{words}
 

@@ -9,7 +9,6 @@ use Rattle.std.proofs.lemmas.Option.{slice_get_read}
 use Rattle.whips_value.proofs.Walked.{take_next}
 use Rattle.whips_model.specs.Tuples.{Codes, Columns}
 use Rattle.whips_model.specs.Relation.{Table, value_of}
-use Rattle.whips_model.specs.Views.{ViewData}
 use Rattle.whips_rel.specs.declared.update.Update.{Update}
 use Rattle.whips_rel.specs.declared.update.Update.TheVariants.{Insert, Delete}
 use Rattle.whips_states.specs.States.{Updates, with_row, without_row, updated, applied, all_applied, state_at}
@@ -21,7 +20,7 @@ use Rattle.whips_setup.specs.Workloads.{work_refusal, one_each}
 use Rattle.whips_forms.specs.Json.{Text}
 use Rattle.whips_forms.specs.Relations.{SourcesForm}
 use Rattle.whips_view_forms.specs.Views.{ViewForm}
-use Rattle.whips_script.specs.Script.{NamedScript, named_script, schemas_of, initial_of, setup_with, are_all_distinct, have_names, are_views_over, is_accepted, script_with, script_if}
+use Rattle.whips_script.specs.Script.{named_script, schemas_of, initial_of, setup_with, are_all_distinct, have_names, are_views_over, is_accepted, script_with, script_if}
 use Rattle.whips_script.specs.Made.{IsScript}
 
 -- ---- counts and the final state

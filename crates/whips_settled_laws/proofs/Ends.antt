@@ -9,7 +9,7 @@ use Rattle.whips_flow.specs.Facts.{Facts, view_places, source_places}
 use Rattle.whips_flow.specs.Painted.{Row, Colour, black, white, red, closure, is_ready, is_white, is_waiting, has_number}
 use Rattle.whips_flow.specs.State.{Pipeline, Source, Manager, Writer, QueryStep, SourceMessage, ManagerMessage, update, reply, sent_answer, start, new_source, new_manager, oldest_message, oldest_ask, oldest_manager_message, oldest_list, with_source, with_manager}
 use Rattle.whips_flow.specs.Progress.{after, step, is_done, is_enabled, has_uncommitted, shortage_at, next, first_enabled, pipeline_events}
-use Rattle.whips_flow.specs.Effects.{next_cut, without_list, after_answer, after_integrate, after_message, with_list_if_answered, after_begin, after_change, after_publish, with_announced_row, with_waiting_list, without_row_set, after_rel, after_act}
+use Rattle.whips_flow.specs.Effects.{next_cut, after_answer, after_integrate, after_message, with_list_if_answered, after_begin, after_change, after_publish, with_announced_row, with_waiting_list, after_rel, after_act}
 use Rattle.whips_flow.specs.declared.event.Event.{Event}
 use Rattle.whips_flow.specs.declared.event.Event.TheVariants.{Commit, Answer, Integrate, Manage, Rel, Act, Begin, Change, Publish, SessionOpen, SessionScan, SessionFetch, SessionClose}
 use Rattle.whips_lists.proofs.InList.{In, all_in, all_from, any_to}

@@ -1,5 +1,5 @@
 -- Relations after updates, the state at a cut, and which updates are valid.
-use Rattle.std.specs.Prelude.{◌≡◌, ℕ, zero, suc, List, [], ◌∷◌, length, take, fold, slice_get, Some, None}
+use Rattle.std.specs.Prelude.{◌≡◌, ℕ, List, [], ◌∷◌, length, take, fold, slice_get, Some, None}
 use Rattle.std.specs.List.{AllByRecursion}
 use Rattle.whips_lists.specs.Lists.{changed_at}
 use Rattle.whips_model.specs.Tuples.{Codes, at_columns, row_at, put_row, without_key}

@@ -11,10 +11,8 @@ use Rattle.std.specs.Option.{option_map}
 use Rattle.std.specs.List.{list_any, filter, AllByRecursion, remove}
 use Rattle.std.specs.declared.cmp.Ordering.TheVariants.{Less, Equal, Greater}
 use Rattle.std.specs.Ordering.{nat_cmp, match_ordering}
-use Rattle.std.proofs.lemmas.List.{length-append, length-map}
-use Rattle.std.proofs.lemmas.Bool.{and_parts, leb-true, lt-ltb, le-ltb}
-use Rattle.whips_model.specs.Views.{ViewData}
-use Rattle.whips_view.specs.ViewDefs.{are_within}
+use Rattle.std.proofs.lemmas.List.{length-map}
+use Rattle.std.proofs.lemmas.Bool.{lt-ltb, le-ltb}
 use Rattle.whips_model.specs.Tuples.{Columns}
 use Rattle.whips_choices.specs.KeyedViews.{KeyedView}
 use Rattle.whips_choices.specs.Partials.{Partial}

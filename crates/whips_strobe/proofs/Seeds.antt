@@ -8,7 +8,7 @@ use Rattle.whips_model.specs.Tuples.{Codes, IsKeyed}
 use Rattle.whips_choices.specs.KeyedViews.{KeyedView}
 use Rattle.whips_choices.specs.Partials.{Partial, slot, seed}
 use Rattle.whips_choices.proofs.Parts.{seed_width, seed_at, seed_other}
-use Rattle.whips_steps.specs.Steps.{StepData, steps, parts_of_source, asked_sources, is_filled}
+use Rattle.whips_steps.specs.Steps.{asked_sources, is_filled}
 use Rattle.whips_steps.specs.Answers.{IsWhole, AllDifferInKey}
 use Rattle.whips_steps.proofs.Fills.{differ_rows}
 use Rattle.whips_steps.proofs.Stepping.{all_filled, filled_first}

@@ -5,9 +5,9 @@
 -- The idea: a new query begins at its first step with seeds of its part, which are keyed and as wide as the part's relation. A query that moves on takes the choices of a reply that fits, and these are filled for the next step and differ in keys. Deletions change pending keys alone.
 --
 -- Four lemmas carry it: `given_widths` and `given_keyed` (what a transaction gives a part), `sound_given` (a query begins, or its rows are put) and `moved_sound` (a query moves on).
-use Rattle.std.proofs.Common.{◌≡◌, ℕ, zero, suc, ◌+◌, ◌<◌, ◌≤◌, Bool, true, false, cond, Option, Some, None, List, [], ◌∷◌, ◌++◌, length, map, drop, refl, sym, ap, subst, ◌∙◌, arith}
+use Rattle.std.proofs.Common.{◌≡◌, ℕ, zero, suc, ◌+◌, ◌<◌, ◌≤◌, Bool, true, false, cond, Option, Some, None, List, [], ◌∷◌, length, map, drop, refl, sym, ap, subst, ◌∙◌, arith}
 use Rattle.std.specs.Prelude.{slice_get, slice_index, IfSome}
-use Rattle.std.specs.List.{AllByRecursion, flat_map, range_with_len, remove}
+use Rattle.std.specs.List.{AllByRecursion, flat_map, range_with_len}
 use Rattle.std.proofs.lemmas.List.{length-map}
 use Rattle.whips_model.specs.Tuples.{Codes, Columns, at_columns, IsKeyed}
 use Rattle.whips_lists.specs.Members.{Has}

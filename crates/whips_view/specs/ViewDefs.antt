@@ -1,5 +1,5 @@
 -- A view that was made: its parts, the columns of its relations and of its rows, and what its making has checked.
-use Rattle.std.specs.Prelude.{◌≡◌, ℕ, ◌&&◌, ◌==◌, nat_le, Bool, true, List, [], ◌∷◌, length, map, is_some, slice_get, slice_index_or, Option, Some, None}
+use Rattle.std.specs.Prelude.{◌≡◌, ℕ, ◌&&◌, ◌==◌, nat_le, Bool, true, List, [], length, map, is_some, slice_get, slice_index_or, Option, Some, None}
 use Rattle.std.specs.Option.{option_map, unwrap_or}
 use Rattle.whips_model.specs.declared.Kind.{Kind}
 use Rattle.whips_model.specs.declared.Kind.TheVariants.{Number}

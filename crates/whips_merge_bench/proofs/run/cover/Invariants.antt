@@ -1,4 +1,4 @@
-use Rattle.std.proofs.Common.{◌≡◌, ◌≤◌, ◌-◌, length}
+use Rattle.std.proofs.Common.{◌≡◌, ◌-◌, length}
 use Rattle.whips_merge_bench.proofs.run.cover.Given as goal
 
 abbrev pub invariant-loop-upto : goal.invariant-loop-upto

@@ -1,5 +1,4 @@
-use Rattle.std.proofs.Common.{◌≤◌, ◌+◌, ◌++◌, length, refl, sym, ap, subst, ◌∙◌, arith, length-append}
-use Rattle.whips_rel.specs.Chunks.{AreFull}
+use Rattle.std.proofs.Common.{◌+◌, refl, arith}
 use Rattle.whips_rel.proofs.Chunks.{joined_two, both_full}
 use Rattle.whips_rel.proofs.edit.join.Goals as goal
 

@@ -3,7 +3,6 @@ use Rattle.std.specs.declared.alloc.Global.{Global}
 use Rattle.std.proofs.lemmas.Result.{err_from_is_err_and}
 use Rattle.whips_rel.specs.declared.update.Update.{Update}
 use Rattle.whips_script.specs.Script.{named_script, schemas_of, are_all_distinct}
-use Rattle.whips_view.specs.ViewDefs.{View}
 use Rattle.whips_forms.specs.Relations.{SourcesForm, RelationForm}
 use Rattle.whips_script.proofs.Scripts.{views_refused, setup_refused, work_refused, script_ok, keeps, lengths_mapped}
 use Rattle.whips_script.proofs.script.make_script.Goals as goal

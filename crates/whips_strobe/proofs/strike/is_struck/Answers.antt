@@ -1,7 +1,6 @@
-use Rattle.std.proofs.Common.{◌≡◌, ◌≤◌, true, length, sym, ap, subst, ◌∙◌, arith}
+use Rattle.std.proofs.Common.{◌≤◌, true, length, sym, ◌∙◌, arith}
 use Rattle.whips_view.specs.ViewDefs.{keyed}
 use Rattle.whips_open_queries.specs.Deletions.{pending_at}
-use Rattle.whips_strobe.specs.Strikes.{is_struck_below}
 use Rattle.whips_strobe.proofs.Strikes.{struck_is, found_struck}
 use Rattle.whips_strobe.proofs.strike.is_struck.Goals as goal
 

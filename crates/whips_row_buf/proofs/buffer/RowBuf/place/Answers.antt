@@ -1,4 +1,4 @@
-use Rattle.std.proofs.Common.{rules, length}
+use Rattle.std.proofs.Common.{rules}
 use Rattle.std.proofs.lemmas.Fn.{always_returns_same}
 use Rattle.whips_row_buf.proofs.Order.{parted, inserted, passes}
 use Rattle.whips_row_buf.proofs.buffer.RowBuf.place.Goals as goal
