@@ -20,12 +20,16 @@ use whips_store::{Changes, Store};
 /// A phase that no run reaches.
 const LAST_PHASE: u64 = 1 << 32;
 
+/// The most slots.
+const MOST: u64 = 4_096;
+
 /// A number that moves the keys about.
 const STRIDE: u64 = 1_009;
 
 /// The key that no row has after transaction `t`.
 fn key_taken(t: u32, slots: u64) -> u64
     requires { 0 < slots }
+    ensures { result < slots }
 {
     (u64::from(t) * STRIDE) % slots
 }
@@ -44,7 +48,11 @@ fn key_missing(t: u32, slots: u64) -> u64
 fn change_rows(alloc: Global, draft: &mut Draft, t: u32) -> Result<(), Stop>
     ensures { IsLater draft.old draft.new }
 {
-    let slots = draft.rows().len() as u64 + 1;
+    let rows = draft.rows().len() as u64;
+    if rows >= MOST {
+        return Err(Stop::Refused);
+    }
+    let slots = rows + 1;
     let taken = key_taken(t, slots);
     let code = u64::from(t) + 1;
     take_second(alloc, draft, taken)?;
