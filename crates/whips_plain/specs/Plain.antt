@@ -2,11 +2,11 @@
 use Rattle.std.specs.Prelude.{◌≡◌, ℕ, ◌<◌, ◌≤◌, ◌^◌, length}
 use Rattle.std.specs.List.{sum_by, AllByRecursion}
 use Rattle.whips_store.specs.Stores.{ViewState, StoreState, ChangeLists, changes_left}
-use Rattle.whips_store.specs.Sound.{HaveWidth, IsSoundStore}
+use Rattle.whips_store.specs.Sound.{IsSoundStore, StepsHaveWidth}
 
 -- each row in the view's slots has a code for each column
 abbrev pub HasWidths : ViewState → Type 0
-HasWidths v = AllByRecursion (HaveWidth (length v.columns.kinds)) v.records
+HasWidths v = AllByRecursion (StepsHaveWidth (length v.columns.kinds)) v.records
 
 abbrev pub HasFewSlots : ViewState → Type 0
 HasFewSlots v = length v.records < 2 ^ 32

@@ -1,6 +1,6 @@
 -- Rows that are put, one after another.
 use Rattle.std.proofs.Common.{◌≡◌, ◌≢◌, ℕ, zero, suc, ◌+◌, ◌-◌, ◌<◌, ◌≤◌, Bool, true, false, cond, List, [], ◌∷◌, ◌++◌, length, map, get_or, take, Option, Some, None, refl, sym, ap, subst, ◌∙◌, arith}
-use Rattle.std.specs.Prelude.{reverse}
+use Rattle.std.specs.Prelude.{reverse, not}
 use Rattle.std.specs.List.{AllByRecursion, filter_map}
 use Rattle.std.proofs.lemmas.List.{reverse-append, take_more, take_all, length-map}
 use Rattle.std.proofs.lemmas.List.Elements.{filter_map-append}
@@ -13,15 +13,14 @@ use Rattle.whips_trans_laws.proofs.ByKey.{at_put, same_by_key}
 use Rattle.whips_changes.specs.Changes.{need}
 use Rattle.whips_vnl.specs.Records.{visible, steps_or_none}
 use Rattle.whips_vnl.specs.declared.record.Vstep.{Vstep}
-use Rattle.whips_store.specs.Versions.{rows_at, row_seen}
-use Rattle.whips_store.specs.Sound.{HaveWidth}
+use Rattle.whips_store.specs.Versions.{row_seen, rows_shown_at}
+use Rattle.whips_store.specs.Sound.{StepsHaveWidth}
 use Rattle.whips_store_laws.proofs.Unions.{other_same, has_own_key}
 use Rattle.whips_store_laws.proofs.Slots.{row_of_seen}
 use Rattle.whips_store_laws.proofs.Views.{wide_seen}
 use Rattle.whips_slot_index.specs.Slots.{all_steps}
 use Rattle.whips_plain_store.specs.Plain.{put_all, put_values}
 use Rattle.whips_slot_index.proofs.Found.{steps_at}
-use Rattle.std.specs.Prelude.{not}
 
 put_again : (cols : List ℕ) (t : Codes) (rows : List Codes) → IsKeyed cols rows → put_row cols t (without_key cols (at_columns cols t) rows) ≡ put_row cols t rows
 put_again cols t rows h = same_by_key cols (put_row cols t (without_key cols (at_columns cols t) rows)) (put_row cols t rows)
@@ -50,29 +49,29 @@ values_then cols rows (us ∷ values) ts = values_then cols (put_all cols rows u
 
 -- one slot more
 pub slot_put : (start before after : Table) (records : List (Option (List Vstep))) (i n v : ℕ) (r : Option (List Vstep)) → i < length records → r ≡ get_or records i r
-    → before ≡ record start { rows = put_all start.columns.key start.rows (rows_at n v (take i (all_steps records))) }
-    → after ≡ record before { rows = put_all before.columns.key before.rows (rows_at n v (steps_or_none r ∷ [])) }
-    → after ≡ record start { rows = put_all start.columns.key start.rows (rows_at n v (take (i + 1) (all_steps records))) }
+    → before ≡ record start { rows = put_all start.columns.key start.rows (rows_shown_at n v (take i (all_steps records))) }
+    → after ≡ record before { rows = put_all before.columns.key before.rows (rows_shown_at n v (steps_or_none r ∷ [])) }
+    → after ≡ record start { rows = put_all start.columns.key start.rows (rows_shown_at n v (take (i + 1) (all_steps records))) }
 slot_put start before after records i n v r lt is a b =
     let count = length-map records steps_or_none in
     let more : take (i + 1) (all_steps records) ≡ take i (all_steps records) ++ steps_or_none r ∷ [] = take_more (all_steps records) i [] (omega arith) ∙ ap (λ s. take i (all_steps records) ++ s ∷ []) (steps_at records i r lt ∙ ap steps_or_none (sym is)) in
-    let rows : rows_at n v (take (i + 1) (all_steps records)) ≡ rows_at n v (take i (all_steps records)) ++ rows_at n v (steps_or_none r ∷ []) =
-    ap (rows_at n v) more ∙ filter_map-append (λ steps. row_seen (visible n v steps)) (take i (all_steps records)) (steps_or_none r ∷ []) in
-    b ∙ ap (λ (t : Table). record t { rows = put_all t.columns.key t.rows (rows_at n v (steps_or_none r ∷ [])) }) a
-    ∙ ap (λ (l : List Codes). record start { rows = l }) (sym (ap (put_all start.columns.key start.rows) rows ∙ all_then start.columns.key start.rows (rows_at n v (take i (all_steps records))) (rows_at n v (steps_or_none r ∷ []))))
+    let rows : rows_shown_at n v (take (i + 1) (all_steps records)) ≡ rows_shown_at n v (take i (all_steps records)) ++ rows_shown_at n v (steps_or_none r ∷ []) =
+    ap (rows_shown_at n v) more ∙ filter_map-append (λ steps. row_seen (visible n v steps)) (take i (all_steps records)) (steps_or_none r ∷ []) in
+    b ∙ ap (λ (t : Table). record t { rows = put_all t.columns.key t.rows (rows_shown_at n v (steps_or_none r ∷ [])) }) a
+    ∙ ap (λ (l : List Codes). record start { rows = l }) (sym (ap (put_all start.columns.key start.rows) rows ∙ all_then start.columns.key start.rows (rows_shown_at n v (take i (all_steps records))) (rows_shown_at n v (steps_or_none r ∷ []))))
 
-pub all_slots : (start after : Table) (records : List (Option (List Vstep))) (i n v : ℕ) → length records ≤ i → after ≡ record start { rows = put_all start.columns.key start.rows (rows_at n v (take i (all_steps records))) }
-    → after ≡ record start { rows = put_all start.columns.key start.rows (rows_at n v (all_steps records)) }
-all_slots start after records i n v le a = let count = length-map records steps_or_none in a ∙ ap (λ l. record start { rows = put_all start.columns.key start.rows (rows_at n v l) }) (take_all i (all_steps records) (omega arith))
+pub all_slots : (start after : Table) (records : List (Option (List Vstep))) (i n v : ℕ) → length records ≤ i → after ≡ record start { rows = put_all start.columns.key start.rows (rows_shown_at n v (take i (all_steps records))) }
+    → after ≡ record start { rows = put_all start.columns.key start.rows (rows_shown_at n v (all_steps records)) }
+all_slots start after records i n v le a = let count = length-map records steps_or_none in a ∙ ap (λ l. record start { rows = put_all start.columns.key start.rows (rows_shown_at n v l) }) (take_all i (all_steps records) (omega arith))
 
-pub slot_wide : (start before : Table) (records : List (Option (List Vstep))) (rows : List Codes) (i : ℕ) (r : Option (List Vstep)) → before ≡ record start { rows = rows } → AllByRecursion (HaveWidth (length start.columns.kinds)) (all_steps records) → i < length records → r ≡ get_or records i r
-    → HaveWidth (length before.columns.kinds) (steps_or_none r)
+pub slot_wide : (start before : Table) (records : List (Option (List Vstep))) (rows : List Codes) (i : ℕ) (r : Option (List Vstep)) → before ≡ record start { rows = rows } → AllByRecursion (StepsHaveWidth (length start.columns.kinds)) (all_steps records) → i < length records → r ≡ get_or records i r
+    → StepsHaveWidth (length before.columns.kinds) (steps_or_none r)
 slot_wide start before records rows i r a h lt is =
     let count = length-map records steps_or_none in
-    subst (λ (columns : Columns). HaveWidth (length columns.kinds) (steps_or_none r)) (sym (ap (λ (t : Table). t.columns) a))
-    (subst (HaveWidth (length start.columns.kinds)) (steps_at records i r lt ∙ ap steps_or_none (sym is)) (all_at (HaveWidth (length start.columns.kinds)) (all_steps records) i [] h (omega arith)))
+    subst (λ (columns : Columns). StepsHaveWidth (length columns.kinds) (steps_or_none r)) (sym (ap (λ (t : Table). t.columns) a))
+    (subst (StepsHaveWidth (length start.columns.kinds)) (steps_at records i r lt ∙ ap steps_or_none (sym is)) (all_at (StepsHaveWidth (length start.columns.kinds)) (all_steps records) i [] h (omega arith)))
 
-pub row_wide : (width n v : ℕ) (steps : List Vstep) (t : Codes) → HaveWidth width steps → Some t ≡ row_seen (visible n v steps) → length t ≡ width
+pub row_wide : (width n v : ℕ) (steps : List Vstep) (t : Codes) → StepsHaveWidth width steps → Some t ≡ row_seen (visible n v steps) → length t ≡ width
 row_wide width n v steps t h e = wide_seen width n v steps t h (row_of_seen (visible n v steps) t (sym e))
 
 -- a version more, older than those before
@@ -91,15 +90,15 @@ keys_counted cols f versions after = ap (λ values. length (put_values cols [] v
 
 pub keys_found : (schema copied : Columns) (start mid last : Table) (after lent : List Codes) (records known : List (Option (List Vstep))) (n first count : ℕ) (versions : List ℕ) (m : ℕ) → start ≡ record { columns = copied; rows = [] } → copied ≡ schema
     → mid ≡ record start { rows = put_all start.columns.key start.rows lent } → lent ≡ after → known ≡ records
-    → last ≡ record mid { rows = put_values mid.columns.key mid.rows (reverse (map (λ v. rows_at n v (all_steps known)) (places_from first count))) } → places_from first count ≡ versions → m ≡ length last.rows
-    → m ≡ need schema.key (map (λ v. rows_at n v (all_steps records)) versions ++ after ∷ [])
+    → last ≡ record mid { rows = put_values mid.columns.key mid.rows (reverse (map (λ v. rows_shown_at n v (all_steps known)) (places_from first count))) } → places_from first count ≡ versions → m ≡ length last.rows
+    → m ≡ need schema.key (map (λ v. rows_shown_at n v (all_steps records)) versions ++ after ∷ [])
 keys_found schema copied start mid last after lent records known n first count versions m a b d e g h i j =
     let empty : Table = record { columns = schema; rows = [] } in
     let begins : start ≡ empty = a ∙ ap (λ (c : Columns). record empty { columns = c }) b in
     let middle : mid ≡ record empty { rows = put_all schema.key [] after } =
     d ∙ ap (λ (t : Table). record t { rows = put_all t.columns.key t.rows lent }) begins ∙ ap (λ (l : List Codes). record empty { rows = put_all schema.key [] l }) e in
-    let whole : last.rows ≡ put_values schema.key (put_all schema.key [] after) (reverse (map (λ v. rows_at n v (all_steps records)) versions)) =
-    ap (λ (t : Table). t.rows) h ∙ ap (λ (t : Table). put_values t.columns.key t.rows (reverse (map (λ v. rows_at n v (all_steps known)) (places_from first count)))) middle
-    ∙ ap (λ k. put_values schema.key (put_all schema.key [] after) (reverse (map (λ v. rows_at n v (all_steps k)) (places_from first count)))) g
-    ∙ ap (λ l. put_values schema.key (put_all schema.key [] after) (reverse (map (λ v. rows_at n v (all_steps records)) l))) i in
-    j ∙ ap length whole ∙ keys_counted schema.key (λ v. rows_at n v (all_steps records)) versions after
+    let whole : last.rows ≡ put_values schema.key (put_all schema.key [] after) (reverse (map (λ v. rows_shown_at n v (all_steps records)) versions)) =
+    ap (λ (t : Table). t.rows) h ∙ ap (λ (t : Table). put_values t.columns.key t.rows (reverse (map (λ v. rows_shown_at n v (all_steps known)) (places_from first count)))) middle
+    ∙ ap (λ k. put_values schema.key (put_all schema.key [] after) (reverse (map (λ v. rows_shown_at n v (all_steps k)) (places_from first count)))) g
+    ∙ ap (λ l. put_values schema.key (put_all schema.key [] after) (reverse (map (λ v. rows_shown_at n v (all_steps records)) l))) i in
+    j ∙ ap length whole ∙ keys_counted schema.key (λ v. rows_shown_at n v (all_steps records)) versions after

@@ -26,7 +26,7 @@ use Rattle.whips_net.specs.Made.{change_key}
 use Rattle.whips_net.proofs.Merge.{puts}
 use Rattle.whips_vnl.specs.Records.{seen_row, seen_after, visible}
 use Rattle.whips_vnl.specs.declared.record.Vstep.{Vstep}
-use Rattle.whips_store.specs.Versions.{versions_in_use, rows_at, row_seen, shows_key, is_free}
+use Rattle.whips_store.specs.Versions.{versions_in_use, row_seen, shows_key, is_free, rows_shown_at}
 use Rattle.whips_store.specs.Stores.{ViewState}
 use Rattle.whips_store.specs.Calls.{AreNetChanges, slots_needed}
 use Rattle.whips_store.specs.Sound.{HasSlotForKey, IsSoundView}
@@ -133,7 +133,7 @@ module _ (cols : List ℕ) (records : List (List Vstep)) (index : IndexData) (af
   unknown = unknown_keys cols index.versions index.committed records keys
 
   abbrev values : List (List Codes)
-  values = reverse (map (λ w. rows_at index.versions w records) versions ++ after ∷ [])
+  values = reverse (map (λ w. rows_shown_at index.versions w records) versions ++ after ∷ [])
 
   abbrev rows : List Codes
   rows = union_rows cols values
@@ -171,13 +171,13 @@ module _ (cols : List ℕ) (records : List (List Vstep)) (index : IndexData) (af
   slot_of t g =
       let found = row_of_key cols t rows (keyed_all cols values [] tt) g in
       elim (from_union cols (at_columns cols t) t values [] found) [
-        | inl f ↦ by_value f.0 f.2 (has_either f.0 (map (λ w. rows_at index.versions w records) versions) (after ∷ []) (has_unreversed f.0 (map (λ w. rows_at index.versions w records) versions ++ after ∷ []) f.1))
+        | inl f ↦ by_value f.0 f.2 (has_either f.0 (map (λ w. rows_shown_at index.versions w records) versions) (after ∷ []) (has_unreversed f.0 (map (λ w. rows_shown_at index.versions w records) versions ++ after ∷ []) f.1))
         | inr none ↦ absurd (cc)
       ]
     where
-      by_value : (ts : List Codes) → Has t ts → Has ts (map (λ w. rows_at index.versions w records) versions) ⊎ Has ts (after ∷ []) → Slot (at_columns cols t)
+      by_value : (ts : List Codes) → Has t ts → Has ts (map (λ w. rows_shown_at index.versions w records) versions) ⊎ Has ts (after ∷ []) → Slot (at_columns cols t)
       by_value ts k (inl g) =
-          let m = has_before (λ w. rows_at index.versions w records) ts versions g in
+          let m = has_before (λ w. rows_shown_at index.versions w records) ts versions g in
           let f = found_from (λ steps. row_seen (visible index.versions m.0 steps)) records [] t (subst (Has t) m.2 k) in
           slot_shown (at_columns cols t) f.0 f.1 (shows cols index.versions versions (at_columns cols t) t m.0 (slot_at records f.0) m.1 (row_of_seen (visible index.versions m.0 (slot_at records f.0)) t f.2) refl)
       by_value ts k (inr g) = elim (has_cases ts after [] g) [
@@ -230,7 +230,7 @@ has_room n phase v columns after changes keys index h table same net ix en ec ek
         before : (o : Option Codes) → row_at v.columns.key (at_columns v.columns.key t) v.current ≡ o → row_at v.columns.key (at_columns v.columns.key t) v.current ≡ None
         before None e = e
         before (Some u) e =
-            let shown : row_at v.columns.key (at_columns v.columns.key t) (puts v.columns.key [] (rows_at index.versions index.committed v.records)) ≡ Some u = ap (λ m. row_at v.columns.key (at_columns v.columns.key t) (puts v.columns.key [] (rows_at m index.committed v.records))) en ∙ ap (λ c. row_at v.columns.key (at_columns v.columns.key t) (puts v.columns.key [] (rows_at n c v.records))) ec ∙ ap (row_at v.columns.key (at_columns v.columns.key t)) h.committed ∙ e in
+            let shown : row_at v.columns.key (at_columns v.columns.key t) (puts v.columns.key [] (rows_shown_at index.versions index.committed v.records)) ≡ Some u = ap (λ m. row_at v.columns.key (at_columns v.columns.key t) (puts v.columns.key [] (rows_shown_at m index.committed v.records))) en ∙ ap (λ c. row_at v.columns.key (at_columns v.columns.key t) (puts v.columns.key [] (rows_shown_at n c v.records))) ec ∙ ap (row_at v.columns.key (at_columns v.columns.key t)) h.committed ∙ e in
             let f = row_slot v.columns.key index.versions index.committed v.records (at_columns v.columns.key t) u shown in
             let s = shows v.columns.key index.versions (versions_in_use index.versions index.committed) (at_columns v.columns.key t) u index.committed (slot_at v.records f.0) (now_in_use index.versions index.committed) f.2 f.3 in
             absurd (let bad : true ≡ false = sym s ∙ no_position (shows_key v.columns.key index.versions (versions_in_use index.versions index.committed) (at_columns v.columns.key t)) v.records none f.0 [] f.1 in cc)

@@ -18,7 +18,7 @@ use Rattle.whips_store.specs.Versions.{row_seen, is_older}
 use Rattle.whips_store.specs.Stores.{ViewState}
 use Rattle.whips_store.specs.First.{first_records, first_view}
 use Rattle.whips_store.specs.Calls.{slot_for, records_with, changed_view}
-use Rattle.whips_store.specs.Sound.{IsSlot, HaveWidth, IsSoundView}
+use Rattle.whips_store.specs.Sound.{IsSlot, IsSoundView, StepsHaveWidth}
 use Rattle.whips_store_laws.proofs.Slots.{row_of_seen, not_older_after, earlier_stays}
 use Rattle.whips_store_laws.proofs.Places.{used}
 use Rattle.whips_store_laws.proofs.Views.{wide_seen, slot_fits, slot_found, view_changed}
@@ -28,11 +28,11 @@ use Rattle.whips_slot_index.proofs.Built.{taken}
 use Rattle.whips_plain_store.specs.Plain.{changed_first}
 use Rattle.whips_slot_index.proofs.Found.{steps_at}
 
-pub wide_row : (records : List (Option (List Vstep))) (i width n v : ℕ) (r : Option (List Vstep)) (t : Codes) → i < length records → r ≡ get_or records i r → HaveWidth width (get_or (all_steps records) i [])
+pub wide_row : (records : List (Option (List Vstep))) (i width n v : ℕ) (r : Option (List Vstep)) (t : Codes) → i < length records → r ≡ get_or records i r → StepsHaveWidth width (get_or (all_steps records) i [])
     → Some t ≡ row_seen (visible n v (steps_or_none r)) → length t ≡ width
 wide_row records i width n v r t lt is wide seen =
     let steps : get_or (all_steps records) i [] ≡ steps_or_none r = steps_at records i r lt ∙ ap steps_or_none (sym is) in
-    wide_seen width n v (steps_or_none r) t (subst (HaveWidth width) steps wide) (row_of_seen (visible n v (steps_or_none r)) t (sym seen))
+    wide_seen width n v (steps_or_none r) t (subst (StepsHaveWidth width) steps wide) (row_of_seen (visible n v (steps_or_none r)) t (sym seen))
 
 pub all_kept : (n phase : ℕ) (records : List (Option (List Vstep))) → AllByRecursion (IsSlot n phase) (all_steps records) → AreKept n records
 all_kept n phase [] h = tt

@@ -5,7 +5,7 @@ ghost use Rattle.std.specs.List.{AllByRecursion};
 ghost use Rattle.whips_model.specs.Tuples.{Codes};
 ghost use Rattle.whips_net.specs.Made.{change_key};
 ghost use Rattle.whips_store.specs.Calls.{slot_for};
-ghost use Rattle.whips_store.specs.Sound.{HaveWidth, HasSlotForKey, IsSlot};
+ghost use Rattle.whips_store.specs.Sound.{HasSlotForKey, IsSlot, StepsHaveWidth};
 ghost use Rattle.whips_slot_index.specs.Slots.{all_steps, AreKept};
 ghost use Rattle.whips_slot_index.specs.Indexes.{IndexData, IsIndex, IsTaken};
 ghost use Rattle.whips_plain_store.specs.Plain.{IsWide};
@@ -114,7 +114,7 @@ pub(crate) fn index_for(
     requires least { 2 ≤ n }
     requires most { n ≤ 4 }
     requires version { c < 2 ^ 62 }
-    requires widths { AllByRecursion (HaveWidth (length schema.now.kinds)) (all_steps records.now) }
+    requires widths { AllByRecursion (StepsHaveWidth (length schema.now.kinds)) (all_steps records.now) }
     requires slots { AllByRecursion (IsSlot n (2 * c)) (all_steps records.now) }
     requires keys { HasSlotForKey schema.now.key n c (all_steps records.now) }
     requires index { ForSome index (IsIndex schema.now.key (all_steps records.now)) }

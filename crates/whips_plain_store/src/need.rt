@@ -4,8 +4,8 @@ ghost use Rattle.std.specs.List.{AllByRecursion};
 ghost use Rattle.whips_model.specs.Tuples.{put_row};
 ghost use Rattle.whips_lists.specs.Lists.{places_from};
 ghost use Rattle.whips_vnl.specs.Records.{steps_or_none};
-ghost use Rattle.whips_store.specs.Versions.{rows_at};
-ghost use Rattle.whips_store.specs.Sound.{HaveWidth};
+ghost use Rattle.whips_store.specs.Versions.{rows_shown_at};
+ghost use Rattle.whips_store.specs.Sound.{StepsHaveWidth};
 ghost use Rattle.whips_slot_index.specs.Slots.{all_steps};
 ghost use Rattle.whips_plain_store.specs.Plain.{put_all, put_values};
 
@@ -42,11 +42,11 @@ pub(crate) fn put_rows(rows: &mut Relation, news: &[Tuple]) -> Result<(), NoMemo
 
 /// Puts the row that the slot shows at version `v`, where it shows one.
 fn put_slot(rows: &mut Relation, slot: &Option<Vrec>, v: u64, n: u32) -> Result<(), NoMemory>
-    requires { HaveWidth (length rows.old.columns.kinds) (steps_or_none slot.now) }
+    requires { StepsHaveWidth (length rows.old.columns.kinds) (steps_or_none slot.now) }
     ensures { OnOk result (rows.new
         ≡ record rows.old {
           rows = put_all rows.old.columns.key rows.old.rows
-              (rows_at n v (steps_or_none slot.now ∷ []));
+              (rows_shown_at n v (steps_or_none slot.now ∷ []));
         }) }
 {
     match row_shown(slot, v, n) {
@@ -57,11 +57,11 @@ fn put_slot(rows: &mut Relation, slot: &Option<Vrec>, v: u64, n: u32) -> Result<
 
 /// Puts the rows that the slots show at version `v`.
 fn put_shown(rows: &mut Relation, records: &[Option<Vrec>], v: u64, n: u32) -> Result<(), NoMemory>
-    requires { AllByRecursion (HaveWidth (length rows.old.columns.kinds)) (all_steps records.now) }
+    requires { AllByRecursion (StepsHaveWidth (length rows.old.columns.kinds)) (all_steps records.now) }
     ensures { OnOk result (rows.new
         ≡ record rows.old {
           rows = put_all rows.old.columns.key rows.old.rows
-              (rows_at n v (all_steps records.now));
+              (rows_shown_at n v (all_steps records.now));
         }) }
 {
     for i in 0..records.len() {
@@ -78,13 +78,13 @@ pub(crate) fn put_versions(
     first: u64,
     count: u64,
 ) -> Result<(), NoMemory>
-    requires widths { AllByRecursion (HaveWidth (length rows.old.columns.kinds))
+    requires widths { AllByRecursion (StepsHaveWidth (length rows.old.columns.kinds))
         (all_steps records.now) }
     requires versions { first + count ≤ 2 ^ 63 }
     ensures { OnOk result (rows.new
         ≡ record rows.old {
           rows = put_values rows.old.columns.key rows.old.rows
-              (reverse (map (λ v. rows_at n v (all_steps records.now)) (places_from first count)));
+              (reverse (map (λ v. rows_shown_at n v (all_steps records.now)) (places_from first count)));
         }) }
 {
     if count == 0 {

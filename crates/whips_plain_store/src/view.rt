@@ -3,11 +3,11 @@ ghost use Rattle.std.specs.Prelude.{◌≡◌, ℕ, ◌<◌, ◌≤◌, ◌+◌,
 ghost use Rattle.std.specs.List.{AllByRecursion};
 ghost use Rattle.whips_vnl.specs.Records.{steps_after, visible, shown_of, IsBelow, is_fitting};
 ghost use Rattle.whips_changes.specs.Changes.{need};
-ghost use Rattle.whips_store.specs.Versions.{versions_in_use, rows_at};
+ghost use Rattle.whips_store.specs.Versions.{versions_in_use, rows_shown_at};
 ghost use Rattle.whips_store.specs.Stores.{with_seen};
 ghost use Rattle.whips_store.specs.Calls.{AreNetChanges, AreRowsWithin, slots_needed};
 ghost use Rattle.whips_store.specs.First.{first_steps, first_records, first_view};
-ghost use Rattle.whips_store.specs.Sound.{HaveWidth, IsSoundView};
+ghost use Rattle.whips_store.specs.Sound.{IsSoundView, StepsHaveWidth};
 ghost use Rattle.whips_slot_index.specs.Slots.{all_steps};
 ghost use Rattle.whips_plain_store.specs.Plain.{changed_first, IsShortage};
 
@@ -34,9 +34,8 @@ pub struct PlainView {
 
 impl Model for PlainView {
     ghost use Rattle.std.specs.Prelude.{◌≡◌, reverse};
-    ghost use Rattle.std.specs.Option.{unwrap_or};
+    ghost use Rattle.std.specs.Option.{unwrap_or, ForSome};
     ghost use Rattle.whips_store.specs.Stores.{ViewState};
-    ghost use Rattle.std.specs.Option.{ForSome};
     ghost use Rattle.whips_slot_index.specs.Slots.{all_steps};
     ghost use Rattle.whips_slot_index.specs.Indexes.{IsIndex};
 
@@ -86,7 +85,7 @@ fn read_slot(
     requires most { n ≤ 4 }
     requires slot { i < length records.now }
     requires kept { length (slice_index_or (all_steps records.now) i []) ≤ n }
-    requires widths { HaveWidth (length schema.now.kinds)
+    requires widths { StepsHaveWidth (length schema.now.kinds)
         (slice_index_or (all_steps records.now) i []) }
     requires columns { into.old.columns ≡ schema.now }
     requires room { length into.old.rows < into.old.room }
@@ -113,10 +112,10 @@ fn count_keys(
     requires least { 2 ≤ n }
     requires version { c < 2 ^ 62 }
     requires columns { after.now.columns ≡ schema.now }
-    requires widths { AllByRecursion (HaveWidth (length schema.now.kinds))
+    requires widths { AllByRecursion (StepsHaveWidth (length schema.now.kinds))
         (all_steps records.now.items) }
     ensures { IfOk result (λ m. m ≡ need schema.now.key
-        (map (λ v. rows_at n v (all_steps records.now.items)) (versions_in_use n c)
+        (map (λ v. rows_shown_at n v (all_steps records.now.items)) (versions_in_use n c)
         ++ after.now.rows ∷ [])) }
 {
     let _sound = after.schema();
@@ -220,7 +219,7 @@ impl PlainView {
         requires least { 2 ≤ n }
         requires version { c < 2 ^ 62 }
         requires columns { after.now.columns ≡ self.now.columns }
-        requires widths { AllByRecursion (HaveWidth
+        requires widths { AllByRecursion (StepsHaveWidth
             (length self.now.columns.kinds)) self.now.records }
         ensures { IfOk result (λ m. m ≡ slots_needed n c self.now after.now.rows) }
     {
@@ -303,7 +302,7 @@ impl PlainView {
         requires most { n ≤ 4 }
         requires slot { i < length self.now.records }
         requires kept { length (slice_index_or self.now.records i []) ≤ n }
-        requires widths { HaveWidth (length self.now.columns.kinds)
+        requires widths { StepsHaveWidth (length self.now.columns.kinds)
             (slice_index_or self.now.records i []) }
         requires columns { into.old.columns ≡ self.now.columns }
         requires room { length into.old.rows < into.old.room }

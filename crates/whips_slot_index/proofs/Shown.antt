@@ -11,7 +11,7 @@ use Rattle.whips_lists.proofs.Members.{has_first, has_later, has_none, has_cases
 use Rattle.whips_vnl.specs.Records.{seen_row, seen_nothing, visible}
 use Rattle.whips_vnl.specs.declared.record.Vstep.{Vstep}
 use Rattle.whips_store.specs.Versions.{versions_in_use, row_seen, is_row_of, is_nothing, shows_key, is_older, is_free}
-use Rattle.whips_store.specs.Sound.{IsReadable, HasSlotForKey, HaveWidth}
+use Rattle.whips_store.specs.Sound.{IsReadable, HasSlotForKey, StepsHaveWidth}
 use Rattle.whips_store_laws.proofs.Lists.{any_found, all_pass, passes_all}
 use Rattle.whips_store_laws.proofs.Unions.{has_own_key}
 use Rattle.whips_store_laws.proofs.Slots.{older_below, below_same, nothing_seen, row_of_seen}
@@ -163,10 +163,10 @@ shows_before cols n c k steps older e =
 
 -- ---- widths
 
-pub wide_among : (width n : ℕ) (steps : List Vstep) (versions : List ℕ) (t : Codes) → HaveWidth width steps → row_among n steps versions ≡ Some t → length t ≡ width
+pub wide_among : (width n : ℕ) (steps : List Vstep) (versions : List ℕ) (t : Codes) → StepsHaveWidth width steps → row_among n steps versions ≡ Some t → length t ≡ width
 wide_among width n steps versions t h e = let f = among_some n steps versions t e in wide_seen width n f.0 steps t h f.2
 
-pub wide_newest : (width : ℕ) (steps : List Vstep) (t : Codes) → HaveWidth width steps → newest_row steps ≡ Some t → length t ≡ width
+pub wide_newest : (width : ℕ) (steps : List Vstep) (t : Codes) → StepsHaveWidth width steps → newest_row steps ≡ Some t → length t ≡ width
 wide_newest width [] t h e = absurd (cc)
 wide_newest width (s ∷ steps) t h e = go (λ g. wide_newest width steps t h.1 g) s.row refl e
   where

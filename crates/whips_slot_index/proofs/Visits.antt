@@ -14,7 +14,7 @@ use Rattle.whips_lists.proofs.Members.{has_first, has_none, has_cases, has_left,
 use Rattle.whips_vnl.specs.Records.{visible, steps_or_none}
 use Rattle.whips_vnl.specs.declared.record.Vstep.{Vstep}
 use Rattle.whips_store.specs.Versions.{versions_in_use, is_nothing, shows_key, is_older, is_free}
-use Rattle.whips_store.specs.Sound.{IsSlot, HasSlotForKey, HaveWidth}
+use Rattle.whips_store.specs.Sound.{IsSlot, HasSlotForKey, StepsHaveWidth}
 use Rattle.whips_store_laws.proofs.Views.{within_older}
 use Rattle.whips_slot_index.specs.Slots.{all_steps, row_among}
 use Rattle.whips_slot_index.specs.Indexes.{IndexData, noted, is_among, slot_at, IsSettled, AreVisited, IsKeyVisited, IsSlotVisited}
@@ -126,8 +126,8 @@ same_versions cols (Some t) i old mid h = ap (λ (x : IndexData). x.versions) h.
 pub record_at : (records : List (Option (List Vstep))) (i : ℕ) (r : Option (List Vstep)) → i < length records → r ≡ get_or records i r → slot_at (all_steps records) i ≡ steps_or_none r
 record_at records i r lt is = steps_at records i r lt ∙ ap steps_or_none (sym is)
 
-pub wide_at : (width : ℕ) (records : List (Option (List Vstep))) (i : ℕ) (r : Option (List Vstep)) → i < length records → r ≡ get_or records i r → AllByRecursion (HaveWidth width) (all_steps records) → HaveWidth width (steps_or_none r)
-wide_at width records i r lt is h = subst (HaveWidth width) (record_at records i r lt is) (all_at (HaveWidth width) (all_steps records) i [] h (omega (arith, length-map records steps_or_none)))
+pub wide_at : (width : ℕ) (records : List (Option (List Vstep))) (i : ℕ) (r : Option (List Vstep)) → i < length records → r ≡ get_or records i r → AllByRecursion (StepsHaveWidth width) (all_steps records) → StepsHaveWidth width (steps_or_none r)
+wide_at width records i r lt is h = subst (StepsHaveWidth width) (record_at records i r lt is) (all_at (StepsHaveWidth width) (all_steps records) i [] h (omega (arith, length-map records steps_or_none)))
 
 pub few_at : (n phase : ℕ) (records : List (Option (List Vstep))) (i : ℕ) (r : Option (List Vstep)) → i < length records → r ≡ get_or records i r → AllByRecursion (IsSlot n phase) (all_steps records) → length (steps_or_none r) ≤ n
 few_at n phase records i r lt is h = subst (λ steps. length steps ≤ n) (record_at records i r lt is) (all_at (IsSlot n phase) (all_steps records) i [] h (omega (arith, length-map records steps_or_none))).kept

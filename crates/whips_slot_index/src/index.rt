@@ -8,7 +8,7 @@ ghost use Rattle.whips_net.specs.Made.{change_key};
 ghost use Rattle.whips_vnl.specs.Records.{steps_or_none};
 ghost use Rattle.whips_store.specs.Versions.{versions_in_use, shows_key, is_free};
 ghost use Rattle.whips_store.specs.Calls.{slot_for};
-ghost use Rattle.whips_store.specs.Sound.{HaveWidth, HasSlotForKey, IsSlot};
+ghost use Rattle.whips_store.specs.Sound.{HasSlotForKey, IsSlot, StepsHaveWidth};
 ghost use Rattle.whips_slot_index.specs.Slots.{all_steps, AreKept, row_among};
 ghost use Rattle.whips_lists.specs.Members.{Has};
 ghost use Rattle.whips_slot_index.specs.Indexes.{is_among, IsIndex, AreVisited, IsNotedAt, ForgetsAt, IsKeyVisited, IsSlotVisited, IsTaken, unknown_keys};
@@ -71,7 +71,7 @@ impl SlotIndex {
         requires least { 2 ≤ n }
         requires most { n ≤ 4 }
         requires version { c < 2 ^ 62 }
-        requires widths { AllByRecursion (HaveWidth (length schema.now.kinds))
+        requires widths { AllByRecursion (StepsHaveWidth (length schema.now.kinds))
             (all_steps records.now) }
         requires slots { AllByRecursion (IsSlot n (2 * c)) (all_steps records.now) }
         requires keys { HasSlotForKey schema.now.key n c (all_steps records.now) }
@@ -98,7 +98,7 @@ impl SlotIndex {
         requires least { 2 ≤ self.versions }
         requires most { self.versions ≤ 4 }
         requires version { self.committed + 1 < 2 ^ 62 }
-        requires widths { AllByRecursion (HaveWidth (length schema.now.kinds))
+        requires widths { AllByRecursion (StepsHaveWidth (length schema.now.kinds))
             (all_steps records.now) }
         requires slots { AllByRecursion (IsSlot self.versions (2 * (self.committed + 1)))
             (all_steps records.now) }
@@ -142,7 +142,7 @@ impl SlotIndex {
 
     /// Where the slot is noted for its newest row's key, it is so no more.
     fn forget(&mut self, schema: &Schema, slot: &Option<Vrec>, i: usize) -> Result<(), NoMemory>
-        requires { HaveWidth (length schema.now.kinds) (steps_or_none slot.now) }
+        requires { StepsHaveWidth (length schema.now.kinds) (steps_or_none slot.now) }
         ensures { OnOk result (ForgetsAt i self.old self.new) }
     {
         let row = match newest_row(slot) {
@@ -161,7 +161,7 @@ impl SlotIndex {
     fn visit_key(&mut self, schema: &Schema, slot: &Option<Vrec>, i: usize) -> Result<(), NoMemory>
         requires least { 2 ≤ self.old.versions }
         requires version { self.old.committed < 2 ^ 62 }
-        requires widths { HaveWidth (length schema.now.kinds) (steps_or_none slot.now) }
+        requires widths { StepsHaveWidth (length schema.now.kinds) (steps_or_none slot.now) }
         ensures { OnOk result (IsKeyVisited schema.now.key
             (row_among self.old.versions (steps_or_none slot.now)
             (versions_in_use self.old.versions self.old.committed)) i self.old self.new) }
@@ -196,7 +196,7 @@ impl SlotIndex {
         requires least { 2 ≤ self.old.versions }
         requires most { self.old.versions ≤ 4 }
         requires version { self.old.committed < 2 ^ 62 }
-        requires widths { AllByRecursion (HaveWidth (length schema.now.kinds))
+        requires widths { AllByRecursion (StepsHaveWidth (length schema.now.kinds))
             (all_steps records.now) }
         requires slots { AllByRecursion (IsSlot self.old.versions (2 * self.old.committed))
             (all_steps records.now) }
@@ -222,7 +222,7 @@ impl SlotIndex {
         requires least { 2 ≤ self.old.versions }
         requires most { self.old.versions ≤ 4 }
         requires version { self.old.committed < 2 ^ 62 }
-        requires widths { AllByRecursion (HaveWidth (length schema.now.kinds))
+        requires widths { AllByRecursion (StepsHaveWidth (length schema.now.kinds))
             (all_steps records.now) }
         requires slots { AllByRecursion (IsSlot self.old.versions (2 * self.old.committed))
             (all_steps records.now) }

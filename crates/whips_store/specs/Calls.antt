@@ -12,7 +12,7 @@ use Rattle.whips_vnl.specs.Records.{steps_after}
 use Rattle.whips_vnl.specs.declared.record.Vstep.{Vstep}
 use Rattle.whips_store.specs.declared.error.StoreErr.{StoreErr}
 use Rattle.whips_store.specs.declared.error.StoreErr.TheVariants.{Full}
-use Rattle.whips_store.specs.Versions.{versions_in_use, rows_at, shows_key, is_free}
+use Rattle.whips_store.specs.Versions.{versions_in_use, shows_key, is_free, rows_shown_at}
 use Rattle.whips_store.specs.Stores.{ViewState, StoreState, ChangeLists}
 
 -- ---- a transaction begins
@@ -35,7 +35,7 @@ AreNet (v ∷ vs) (c ∷ cs) = ((c.0.columns ≡ v.columns) × AreNetChanges v c
 
 -- how many slots a view needs while the version after c is written: the keys of its rows at the versions in use and afterwards, a common key counted once; own, after nVNL 1997, which keeps the versions of one row in one slot
 abbrev pub slots_needed : ℕ → ℕ → ViewState → List Codes → ℕ
-slots_needed n c v after = need v.columns.key (map (λ w. rows_at n w v.records) (versions_in_use n c) ++ after ∷ [])
+slots_needed n c v after = need v.columns.key (map (λ w. rows_shown_at n w v.records) (versions_in_use n c) ++ after ∷ [])
 
 -- the first of these views, of which the first is number x, that needs more slots than it has
 abbrev pub first_full : ℕ → ℕ → ℕ → List ViewState → ChangeLists → Option StoreErr

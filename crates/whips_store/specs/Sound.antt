@@ -6,7 +6,7 @@ use Rattle.whips_model.specs.Relation.{IsTable}
 use Rattle.whips_changes.specs.Changes.{union_rows, net_changes}
 use Rattle.whips_vnl.specs.Records.{seen_row, visible, is_removed, IsWithinPhase}
 use Rattle.whips_vnl.specs.declared.record.Vstep.{Vstep}
-use Rattle.whips_store.specs.Versions.{rows_at, row_seen, is_older}
+use Rattle.whips_store.specs.Versions.{row_seen, is_older, rows_shown_at}
 use Rattle.whips_store.specs.Stores.{ViewState, StoreState}
 use Rattle.whips_store.specs.Calls.{slots_needed, AreRowsWithin}
 
@@ -32,19 +32,19 @@ pub record IsWritten (columns : List ℕ) (n c : ℕ) (new : List Codes) (steps 
   pub rows : (v : ℕ) (t : Codes) → IsReadable n c v → visible n v steps ≡ seen_row t → row_at columns (at_columns columns t) new ≡ row_seen (visible n (suc c) steps)
 
 -- each row of these steps has this many codes
-abbrev pub HaveWidth : ℕ → List Vstep → Type 0
-HaveWidth width steps = AllByRecursion (λ s. (t : Codes) → s.row ≡ Some t → length t ≡ width) steps
+abbrev pub StepsHaveWidth : ℕ → List Vstep → Type 0
+StepsHaveWidth width steps = AllByRecursion (λ s. (t : Codes) → s.row ≡ Some t → length t ≡ width) steps
 
 -- A view in a store: its slots show the current rows at the committed version; the changes that are left take what they show at the next one to the new rows; there are slots for all of these; no number of these rows is above the greatest; and no change is left where no maintenance is active.
 pub record IsSoundView (n phase : ℕ) (v : ViewState) : Type 0 where
   pub current : IsTable v.columns v.current
   pub new : IsTable v.columns v.next
   pub records : AllByRecursion (IsSlot n phase) v.records
-  pub widths : AllByRecursion (HaveWidth (length v.columns.kinds)) v.records
+  pub widths : AllByRecursion (StepsHaveWidth (length v.columns.kinds)) v.records
   pub keys : HasSlotForKey v.columns.key n (phase / 2) v.records
   pub written : AllByRecursion (λ steps. is_older (phase / 2) steps ≡ false → IsWritten v.columns.key n (phase / 2) v.next steps) v.records
-  pub committed : union_rows v.columns.key (rows_at n (phase / 2) v.records ∷ []) ≡ v.current
-  pub left : net_changes v.columns.key (union_rows v.columns.key (rows_at n (suc (phase / 2)) v.records ∷ [])) v.next ≡ v.left
+  pub committed : union_rows v.columns.key (rows_shown_at n (phase / 2) v.records ∷ []) ≡ v.current
+  pub left : net_changes v.columns.key (union_rows v.columns.key (rows_shown_at n (suc (phase / 2)) v.records ∷ [])) v.next ≡ v.left
   pub room : slots_needed n (phase / 2) v v.next ≤ length v.records
   pub numbers : AreRowsWithin v.columns.kinds v.current
   pub new_numbers : AreRowsWithin v.columns.kinds v.next

@@ -16,8 +16,8 @@ row_seen seen_nothing = None
 row_seen seen_past = None
 
 -- the rows that these slots show at version v, in the order of the slots
-abbrev pub rows_at : ℕ → ℕ → List (List Vstep) → List Codes
-rows_at n v records = filter_map (λ steps. row_seen (visible n v steps)) records
+abbrev pub rows_shown_at : ℕ → ℕ → List (List Vstep) → List Codes
+rows_shown_at n v records = filter_map (λ steps. row_seen (visible n v steps)) records
 
 abbrev pub is_row_of : List ℕ → Codes → Seen → Bool
 is_row_of columns k (seen_row t) = has_key columns k t

@@ -20,7 +20,7 @@ use Rattle.whips_net.proofs.Merge.{puts}
 use Rattle.whips_net.proofs.Leads.{keyed_changed}
 use Rattle.whips_vnl.specs.Records.{Seen, seen_row, seen_nothing, seen_past, visible, steps_after, seen_after, is_fitting}
 use Rattle.whips_vnl.specs.declared.record.Vstep.{Vstep}
-use Rattle.whips_store.specs.Versions.{versions_in_use, rows_at, row_seen, is_older}
+use Rattle.whips_store.specs.Versions.{versions_in_use, row_seen, is_older, rows_shown_at}
 use Rattle.whips_store.specs.Sound.{IsSlot, IsReadable, HasSlotForKey, IsWritten}
 use Rattle.whips_store_laws.proofs.Lists.{set_found, all_set, same_option}
 use Rattle.whips_store_laws.proofs.Unions.{keyed_puts, has_own_key, own_gone, other_same}
@@ -137,11 +137,11 @@ module _ (cols : List ℕ) (n c phase : ℕ) (records : List (List Vstep)) (new 
   written_after = all_set (λ steps. is_older c steps ≡ false → IsWritten cols n c new steps) records i after h.written (λ e. written_own)
 
   -- at a version in use the slots show the same rows
-  pub rows_stay : (v : ℕ) → c - (n - 2) ≤ v → v ≤ c → rows_at n v changed_records ≡ rows_at n v records
+  pub rows_stay : (v : ℕ) → c - (n - 2) ≤ v → v ≤ c → rows_shown_at n v changed_records ≡ rows_shown_at n v records
   rows_stay v low high = set_found (λ steps. row_seen (visible n v steps)) records i after [] (ap row_seen (stays v low high))
 
-  pub need_stays : need cols (map (λ v. rows_at n v changed_records) (versions_in_use n c) ++ new ∷ []) ≡ need cols (map (λ v. rows_at n v records) (versions_in_use n c) ++ new ∷ [])
-  need_stays = ap (λ values. need cols (values ++ new ∷ [])) (map_same (λ v. rows_at n v changed_records) (λ v. rows_at n v records) (versions_in_use n c) (λ v k. let u = used n c v k in rows_stay v u.0 u.1))
+  pub need_stays : need cols (map (λ v. rows_shown_at n v changed_records) (versions_in_use n c) ++ new ∷ []) ≡ need cols (map (λ v. rows_shown_at n v records) (versions_in_use n c) ++ new ∷ [])
+  need_stays = ap (λ values. need cols (values ++ new ∷ [])) (map_same (λ v. rows_shown_at n v changed_records) (λ v. rows_shown_at n v records) (versions_in_use n c) (λ v k. let u = used n c v k in rows_stay v u.0 u.1))
 
   pub slots_stay : Slots cols n c phase changed_records new
   slots_stay = record {
@@ -155,42 +155,42 @@ module _ (cols : List ℕ) (n c phase : ℕ) (records : List (List Vstep)) (new 
   }
 
   -- at the next version the slots show the rows after the change
-  pub next_after : puts cols [] (rows_at n (suc c) changed_records) ≡ changed_rows cols (puts cols [] (rows_at n (suc c) records)) change
-  next_after = same_by_key cols (puts cols [] (rows_at n (suc c) changed_records)) (changed_rows cols (puts cols [] (rows_at n (suc c) records)) change)
-      (keyed_puts cols (rows_at n (suc c) changed_records) [] tt) (keyed_changed cols (puts cols [] (rows_at n (suc c) records)) change (keyed_puts cols (rows_at n (suc c) records) [] tt))
-      (λ k. same_option (row_at cols k (puts cols [] (rows_at n (suc c) changed_records))) (row_at cols k (changed_rows cols (puts cols [] (rows_at n (suc c) records)) change)) (there k) (back k))
+  pub next_after : puts cols [] (rows_shown_at n (suc c) changed_records) ≡ changed_rows cols (puts cols [] (rows_shown_at n (suc c) records)) change
+  next_after = same_by_key cols (puts cols [] (rows_shown_at n (suc c) changed_records)) (changed_rows cols (puts cols [] (rows_shown_at n (suc c) records)) change)
+      (keyed_puts cols (rows_shown_at n (suc c) changed_records) [] tt) (keyed_changed cols (puts cols [] (rows_shown_at n (suc c) records)) change (keyed_puts cols (rows_shown_at n (suc c) records) [] tt))
+      (λ k. same_option (row_at cols k (puts cols [] (rows_shown_at n (suc c) changed_records))) (row_at cols k (changed_rows cols (puts cols [] (rows_shown_at n (suc c) records)) change)) (there k) (back k))
     where
-      there : (k t : Codes) → row_at cols k (puts cols [] (rows_at n (suc c) changed_records)) ≡ Some t → row_at cols k (changed_rows cols (puts cols [] (rows_at n (suc c) records)) change) ≡ Some t
+      there : (k t : Codes) → row_at cols k (puts cols [] (rows_shown_at n (suc c) changed_records)) ≡ Some t → row_at cols k (changed_rows cols (puts cols [] (rows_shown_at n (suc c) records)) change) ≡ Some t
       there k t e =
           let f = row_slot cols n (suc c) changed_records k t e in
           by_place f.0 f.1 f.2 f.3 (same_place f.0 i)
         where
-          by_place : (j : ℕ) → j < length changed_records → visible n (suc c) (at changed_records j) ≡ seen_row t → at_columns cols t ≡ k → (j ≡ i) ⊎ (j ≢ i) → row_at cols k (changed_rows cols (puts cols [] (rows_at n (suc c) records)) change) ≡ Some t
+          by_place : (j : ℕ) → j < length changed_records → visible n (suc c) (at changed_records j) ≡ seen_row t → at_columns cols t ≡ k → (j ≡ i) ⊎ (j ≢ i) → row_at cols k (changed_rows cols (puts cols [] (rows_shown_at n (suc c) records)) change) ≡ Some t
           by_place j lt seen is (inl x) =
               let made : seen_after change ≡ seen_row t = sym shown_next ∙ sym (ap (visible n (suc c)) (ap (at changed_records) x ∙ at_own)) ∙ seen in
-              ap (λ q. row_at cols q (changed_rows cols (puts cols [] (rows_at n (suc c) records)) change)) (sym is ∙ own_key cols change t made)
-              ∙ changed_own cols change (puts cols [] (rows_at n (suc c) records)) ∙ ap row_seen made
+              ap (λ q. row_at cols q (changed_rows cols (puts cols [] (rows_shown_at n (suc c) records)) change)) (sym is ∙ own_key cols change t made)
+              ∙ changed_own cols change (puts cols [] (rows_shown_at n (suc c) records)) ∙ ap row_seen made
           by_place j lt seen is (inr x) =
               let old : visible n (suc c) (at records j) ≡ seen_row t = sym (ap (visible n (suc c)) (at_other j x)) ∙ seen in
               let inside : j < length records = subst (λ m. j < m) (length-set records i after) lt in
               let ne = s.slot.others j (suc c) t inside x (next_is_readable cols n c phase records new h) old in
-              changed_other cols k change (puts cols [] (rows_at n (suc c) records)) (λ same. ne (is ∙ same))
-              ∙ subst (λ q. row_at cols q (puts cols [] (rows_at n (suc c) records)) ≡ Some t) is (shown_row cols n c records h.keys j (suc c) t inside (next_is_readable cols n c phase records new h) old)
+              changed_other cols k change (puts cols [] (rows_shown_at n (suc c) records)) (λ same. ne (is ∙ same))
+              ∙ subst (λ q. row_at cols q (puts cols [] (rows_shown_at n (suc c) records)) ≡ Some t) is (shown_row cols n c records h.keys j (suc c) t inside (next_is_readable cols n c phase records new h) old)
 
-      back : (k t : Codes) → row_at cols k (changed_rows cols (puts cols [] (rows_at n (suc c) records)) change) ≡ Some t → row_at cols k (puts cols [] (rows_at n (suc c) changed_records)) ≡ Some t
+      back : (k t : Codes) → row_at cols k (changed_rows cols (puts cols [] (rows_shown_at n (suc c) records)) change) ≡ Some t → row_at cols k (puts cols [] (rows_shown_at n (suc c) changed_records)) ≡ Some t
       back k t e = by_key (same_codes k (change_key cols change))
         where
-          by_key : (k ≡ change_key cols change) ⊎ (k ≢ change_key cols change) → row_at cols k (puts cols [] (rows_at n (suc c) changed_records)) ≡ Some t
+          by_key : (k ≡ change_key cols change) ⊎ (k ≢ change_key cols change) → row_at cols k (puts cols [] (rows_shown_at n (suc c) changed_records)) ≡ Some t
           by_key (inl same) =
-              let made : row_seen (seen_after change) ≡ Some t = sym (changed_own cols change (puts cols [] (rows_at n (suc c) records))) ∙ subst (λ q. row_at cols q (changed_rows cols (puts cols [] (rows_at n (suc c) records)) change) ≡ Some t) same e in
+              let made : row_seen (seen_after change) ≡ Some t = sym (changed_own cols change (puts cols [] (rows_shown_at n (suc c) records))) ∙ subst (λ q. row_at cols q (changed_rows cols (puts cols [] (rows_shown_at n (suc c) records)) change) ≡ Some t) same e in
               let seen : seen_after change ≡ seen_row t = row_of_seen (seen_after change) t made in
               let lt : i < length changed_records = subst (λ m. i < m) (sym (length-set records i after)) s.slot.within in
-              subst (λ q. row_at cols q (puts cols [] (rows_at n (suc c) changed_records)) ≡ Some t) (own_key cols change t seen ∙ sym same)
+              subst (λ q. row_at cols q (puts cols [] (rows_shown_at n (suc c) changed_records)) ≡ Some t) (own_key cols change t seen ∙ sym same)
               (shown_row cols n c changed_records keys_after i (suc c) t lt (next_is_readable cols n c phase records new h) (ap (visible n (suc c)) at_own ∙ shown_next ∙ seen))
           by_key (inr ne) =
-              let before : row_at cols k (puts cols [] (rows_at n (suc c) records)) ≡ Some t = sym (changed_other cols k change (puts cols [] (rows_at n (suc c) records)) ne) ∙ e in
+              let before : row_at cols k (puts cols [] (rows_shown_at n (suc c) records)) ≡ Some t = sym (changed_other cols k change (puts cols [] (rows_shown_at n (suc c) records)) ne) ∙ e in
               let f = row_slot cols n (suc c) records k t before in
               let x : f.0 ≢ i = λ same. ne (sym f.3 ∙ s.slot.own (suc c) t (next_is_readable cols n c phase records new h) (subst (λ j. visible n (suc c) (at records j) ≡ seen_row t) same f.2)) in
               let lt : f.0 < length changed_records = subst (λ m. f.0 < m) (sym (length-set records i after)) f.1 in
-              subst (λ q. row_at cols q (puts cols [] (rows_at n (suc c) changed_records)) ≡ Some t) f.3
+              subst (λ q. row_at cols q (puts cols [] (rows_shown_at n (suc c) changed_records)) ≡ Some t) f.3
               (shown_row cols n c changed_records keys_after f.0 (suc c) t lt (next_is_readable cols n c phase records new h) (ap (visible n (suc c)) (at_other f.0 x) ∙ f.2))

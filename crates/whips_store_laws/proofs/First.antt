@@ -14,9 +14,9 @@ use Rattle.whips_net.proofs.Merge.{puts, puts_all, net_of, net_is, both_first, t
 use Rattle.whips_vnl.specs.Records.{seen_row, seen_nothing, visible, is_removed}
 use Rattle.whips_vnl.specs.declared.record.Op.TheVariants.{Added}
 use Rattle.whips_vnl.specs.declared.record.Vstep.{Vstep}
-use Rattle.whips_store.specs.Versions.{versions_in_use, rows_at, row_seen, is_older}
+use Rattle.whips_store.specs.Versions.{versions_in_use, row_seen, is_older, rows_shown_at}
 use Rattle.whips_store.specs.First.{first_steps, first_records, first_view}
-use Rattle.whips_store.specs.Sound.{IsSlot, HaveWidth, HasSlotForKey, IsWritten, IsSoundView}
+use Rattle.whips_store.specs.Sound.{IsSlot, HasSlotForKey, IsWritten, IsSoundView, StepsHaveWidth}
 use Rattle.whips_store_laws.specs.Laws.{FirstIsSound}
 use Rattle.whips_store_laws.proofs.Lists.{has_unreversed}
 use Rattle.whips_store_laws.proofs.Unions.{keyed_all, from_union}
@@ -49,13 +49,13 @@ module _ (n : ℕ) (two : 2 ≤ n) where
     | inr blank ↦ absurd (let bad : seen_nothing ≡ seen_row t = sym (shown_blank n v two) ∙ sym (ap (visible n v) blank) ∙ e in cc)
   ]
 
-  blank_rows : (v spare : ℕ) → rows_at n v (replicate spare []) ≡ []
+  blank_rows : (v spare : ℕ) → rows_shown_at n v (replicate spare []) ≡ []
   blank_rows v zero = refl
-  blank_rows v (suc spare) = ap (λ s. cons_option (row_seen s) (rows_at n v (replicate spare []))) (shown_blank n v two) ∙ blank_rows v spare
+  blank_rows v (suc spare) = ap (λ s. cons_option (row_seen s) (rows_shown_at n v (replicate spare []))) (shown_blank n v two) ∙ blank_rows v spare
 
-  first_rows : (v : ℕ) (rows : List Codes) (spare : ℕ) → rows_at n v (first_records rows spare) ≡ rows
+  first_rows : (v : ℕ) (rows : List Codes) (spare : ℕ) → rows_shown_at n v (first_records rows spare) ≡ rows
   first_rows v [] spare = blank_rows v spare
-  first_rows v (t ∷ rows) spare = ap (λ s. cons_option (row_seen s) (rows_at n v (first_records rows spare))) (shown_first n v t) ∙ ap (λ l. t ∷ l) (first_rows v rows spare)
+  first_rows v (t ∷ rows) spare = ap (λ s. cons_option (row_seen s) (rows_shown_at n v (first_records rows spare))) (shown_first n v t) ∙ ap (λ l. t ∷ l) (first_rows v rows spare)
 
   all_firsts : (P : List Vstep → Type 0) (Q : Codes → Type 0) (rows : List Codes) (spare : ℕ) → ((t : Codes) → Q t → P (first_steps t)) → P [] → AllByRecursion Q rows → AllByRecursion P (first_records rows spare)
   all_firsts P Q [] spare f p h = all_blank spare
@@ -100,13 +100,13 @@ module _ (n : ℕ) (two : 2 ≤ n) where
   first_slots : (columns : Columns) (rows : List Codes) (spare : ℕ) → AllByRecursion (IsSlot n 0) (first_records rows spare)
   first_slots columns rows spare = all_firsts (IsSlot n 0) (λ t. Unit {0}) rows spare (λ t u. slot_first t) slot_blank (any_row rows)
 
-  among : (cols : List ℕ) (rows : List Codes) (spare : ℕ) → IsKeyed cols rows → (t : Codes) → Has t (union_rows cols (reverse (map (λ w. rows_at n w (first_records rows spare)) (versions_in_use n 0) ++ rows ∷ []))) → is_some (row_at cols (at_columns cols t) rows) ≡ true
+  among : (cols : List ℕ) (rows : List Codes) (spare : ℕ) → IsKeyed cols rows → (t : Codes) → Has t (union_rows cols (reverse (map (λ w. rows_shown_at n w (first_records rows spare)) (versions_in_use n 0) ++ rows ∷ []))) → is_some (row_at cols (at_columns cols t) rows) ≡ true
   among cols rows spare h t k =
-      let values = reverse (map (λ w. rows_at n w (first_records rows spare)) (versions_in_use n 0) ++ rows ∷ []) in
+      let values = reverse (map (λ w. rows_shown_at n w (first_records rows spare)) (versions_in_use n 0) ++ rows ∷ []) in
       let found = row_of_key cols t (union_rows cols values) (keyed_all cols values [] tt) k in
       elim (from_union cols (at_columns cols t) t values [] found) [
-        | inl g ↦ ap is_some (row_of_key cols t rows h (elim (has_either g.0 (map (λ w. rows_at n w (first_records rows spare)) (versions_in_use n 0)) (rows ∷ []) (has_unreversed g.0 (map (λ w. rows_at n w (first_records rows spare)) (versions_in_use n 0) ++ rows ∷ []) g.1)) [
-          | inl m ↦ let b = has_before (λ w. rows_at n w (first_records rows spare)) g.0 (versions_in_use n 0) m in subst (Has t) (b.2 ∙ first_rows b.0 rows spare) g.2
+        | inl g ↦ ap is_some (row_of_key cols t rows h (elim (has_either g.0 (map (λ w. rows_shown_at n w (first_records rows spare)) (versions_in_use n 0)) (rows ∷ []) (has_unreversed g.0 (map (λ w. rows_shown_at n w (first_records rows spare)) (versions_in_use n 0) ++ rows ∷ []) g.1)) [
+          | inl m ↦ let b = has_before (λ w. rows_shown_at n w (first_records rows spare)) g.0 (versions_in_use n 0) m in subst (Has t) (b.2 ∙ first_rows b.0 rows spare) g.2
           | inr m ↦ elim (has_cases g.0 rows [] m) [
             | inl same ↦ subst (Has t) same g.2
             | inr none ↦ absurd (has_none g.0 none)
@@ -120,7 +120,7 @@ first_is_sound n columns rows spare two table within = record {
   current = table;
   new = table;
   records = first_slots n two columns rows spare;
-  widths = all_firsts n two (HaveWidth (length columns.kinds)) (λ t. length t ≡ length columns.kinds) rows spare (λ t w. (λ u e. let same : t ≡ u = cc in ap length (sym same) ∙ w, tt)) tt table.widths;
+  widths = all_firsts n two (StepsHaveWidth (length columns.kinds)) (λ t. length t ≡ length columns.kinds) rows spare (λ t w. (λ u e. let same : t ≡ u = cc in ap length (sym same) ∙ w, tt)) tt table.widths;
   keys = λ i j v w t u li lj rv rw e f.
       let a = first_shown n two rows spare i v t e in
       let b = first_shown n two rows spare j w u f in
@@ -129,7 +129,7 @@ first_is_sound n columns rows spare two table within = record {
   committed = ap (λ l. puts columns.key [] l) (first_rows n two 0 rows spare) ∙ puts_all columns.key rows table.keyed;
   left = ap (λ l. net_changes columns.key l rows) (ap (λ l. puts columns.key [] l) (first_rows n two 1 rows spare) ∙ puts_all columns.key rows table.keyed) ∙ net_is columns.key rows rows table.keyed ∙ no_change n two columns.key rows table.keyed;
   room =
-      let values = reverse (map (λ w. rows_at n w (first_records rows spare)) (versions_in_use n 0) ++ rows ∷ []) in
+      let values = reverse (map (λ w. rows_shown_at n w (first_records rows spare)) (versions_in_use n 0) ++ rows ∷ []) in
       let fewer = not_more columns.key (union_rows columns.key values) rows (keyed_all columns.key values [] tt) (among n two columns.key rows spare table.keyed) in
       omega (arith, fewer, enough n two rows spare);
   numbers = within;

@@ -17,7 +17,7 @@ use Rattle.whips_net.specs.Made.{change_key}
 use Rattle.whips_net.proofs.Merge.{puts}
 use Rattle.whips_vnl.specs.Records.{Seen, seen_row, seen_nothing, seen_past, visible, seen_after, is_fitting}
 use Rattle.whips_vnl.specs.declared.record.Vstep.{Vstep}
-use Rattle.whips_store.specs.Versions.{versions_in_use, rows_at, row_seen, is_row_of, is_nothing, shows_key, is_older, is_free}
+use Rattle.whips_store.specs.Versions.{versions_in_use, row_seen, is_row_of, is_nothing, shows_key, is_older, is_free, rows_shown_at}
 use Rattle.whips_store.specs.Calls.{slot_for}
 use Rattle.whips_store.specs.Sound.{IsSlot, IsReadable, HasSlotForKey, IsWritten}
 use Rattle.whips_store_laws.proofs.Lists.{any_found, any_none, all_pass, one_fails, no_position, has_found, found_from, first_found, place_within, within_places, has_reversed}
@@ -97,8 +97,8 @@ net_change cols before after change others e =
 -- ---- the rows that slots show
 
 module _ (cols : List ℕ) (n c : ℕ) (records : List (List Vstep)) (keys : HasSlotForKey cols n c records) where
-  pub shown_row : (i v : ℕ) (t : Codes) → i < length records → IsReadable n c v → visible n v (at records i) ≡ seen_row t → row_at cols (at_columns cols t) (puts cols [] (rows_at n v records)) ≡ Some t
-  shown_row i v t lt r e = alone cols t (rows_at n v records)
+  pub shown_row : (i v : ℕ) (t : Codes) → i < length records → IsReadable n c v → visible n v (at records i) ≡ seen_row t → row_at cols (at_columns cols t) (puts cols [] (rows_shown_at n v records)) ≡ Some t
+  shown_row i v t lt r e = alone cols t (rows_shown_at n v records)
       (has_found (λ steps. row_seen (visible n v steps)) records i [] t lt (ap row_seen e))
       (λ u h same.
       let f = found_from (λ steps. row_seen (visible n v steps)) records [] u h in
@@ -106,8 +106,8 @@ module _ (cols : List ℕ) (n c : ℕ) (records : List (List Vstep)) (keys : Has
       let place : f.0 ≡ i = (keys f.0 i v v u t f.1 lt r r g e).0 same in
       same_seen (visible n v (at records i)) u t (subst (λ j. visible n v (at records j) ≡ seen_row u) place g) e)
 
-pub row_slot : (cols : List ℕ) (n v : ℕ) (records : List (List Vstep)) (k t : Codes) → row_at cols k (puts cols [] (rows_at n v records)) ≡ Some t → (i : ℕ) × (i < length records) × (visible n v (at records i) ≡ seen_row t) × (at_columns cols t ≡ k)
-row_slot cols n v records k t e = elim (put_from cols k t (rows_at n v records) [] e) [
+pub row_slot : (cols : List ℕ) (n v : ℕ) (records : List (List Vstep)) (k t : Codes) → row_at cols k (puts cols [] (rows_shown_at n v records)) ≡ Some t → (i : ℕ) × (i < length records) × (visible n v (at records i) ≡ seen_row t) × (at_columns cols t ≡ k)
+row_slot cols n v records k t e = elim (put_from cols k t (rows_shown_at n v records) [] e) [
   | inl h ↦ let f = found_from (λ steps. row_seen (visible n v steps)) records [] t h.0 in (f.0, f.1, row_of_seen (visible n v (at records f.0)) t f.2, h.1)
   | inr g ↦ absurd (cc)
 ]
@@ -126,7 +126,7 @@ pub record Slots (cols : List ℕ) (n c phase : ℕ) (records : List (List Vstep
   pub keys : HasSlotForKey cols n c records
   pub written : AllByRecursion (λ steps. is_older c steps ≡ false → IsWritten cols n c new steps) records
   pub keyed : IsKeyed cols new
-  pub room : need cols (map (λ v. rows_at n v records) (versions_in_use n c) ++ new ∷ []) ≤ length records
+  pub room : need cols (map (λ v. rows_shown_at n v records) (versions_in_use n c) ++ new ∷ []) ≤ length records
 
 module _ (cols : List ℕ) (n c phase : ℕ) (records : List (List Vstep)) (new : List Codes) (h : Slots cols n c phase records new) where
   slot_at : (i : ℕ) → i < length records → IsSlot n phase (at records i)
@@ -181,16 +181,16 @@ module _ (cols : List ℕ) (n c phase : ℕ) (records : List (List Vstep)) (new 
 
   -- all rows whose keys need slots
   abbrev pub all_rows : List Codes
-  all_rows = union_rows cols (reverse (map (λ v. rows_at n v records) (versions_in_use n c) ++ new ∷ []))
+  all_rows = union_rows cols (reverse (map (λ v. rows_shown_at n v records) (versions_in_use n c) ++ new ∷ []))
 
   pub new_needed : (u : Codes) → Has u new → is_some (row_at cols (at_columns cols u) all_rows) ≡ true
-  new_needed u g = has_in_union cols u new (reverse (map (λ v. rows_at n v records) (versions_in_use n c) ++ new ∷ [])) []
-      (has_reversed new (map (λ v. rows_at n v records) (versions_in_use n c) ++ new ∷ []) (has_right new (map (λ v. rows_at n v records) (versions_in_use n c)) (new ∷ []) (has_first new [])))
+  new_needed u g = has_in_union cols u new (reverse (map (λ v. rows_shown_at n v records) (versions_in_use n c) ++ new ∷ [])) []
+      (has_reversed new (map (λ v. rows_shown_at n v records) (versions_in_use n c) ++ new ∷ []) (has_right new (map (λ v. rows_shown_at n v records) (versions_in_use n c)) (new ∷ []) (has_first new [])))
       g
 
   used_needed : (i w : ℕ) (t : Codes) → i < length records → c - (n - 2) ≤ w → w ≤ c → visible n w (at records i) ≡ seen_row t → is_some (row_at cols (at_columns cols t) all_rows) ≡ true
-  used_needed i w t lt low high f = has_in_union cols t (rows_at n w records) (reverse (map (λ v. rows_at n v records) (versions_in_use n c) ++ new ∷ [])) []
-      (has_reversed (rows_at n w records) (map (λ v. rows_at n v records) (versions_in_use n c) ++ new ∷ []) (has_left (rows_at n w records) (map (λ v. rows_at n v records) (versions_in_use n c)) (new ∷ []) (has_mapped (λ v. rows_at n v records) w (versions_in_use n c) (in_use n c w low high))))
+  used_needed i w t lt low high f = has_in_union cols t (rows_shown_at n w records) (reverse (map (λ v. rows_shown_at n v records) (versions_in_use n c) ++ new ∷ [])) []
+      (has_reversed (rows_shown_at n w records) (map (λ v. rows_shown_at n v records) (versions_in_use n c) ++ new ∷ []) (has_left (rows_shown_at n w records) (map (λ v. rows_shown_at n v records) (versions_in_use n c)) (new ∷ []) (has_mapped (λ v. rows_shown_at n v records) w (versions_in_use n c) (in_use n c w low high))))
       (has_found (λ steps. row_seen (visible n w steps)) records i [] t lt (ap row_seen f))
 
   -- what a slot shows at such a version has its key among them
@@ -228,13 +228,13 @@ module _ (cols : List ℕ) (n c phase : ℕ) (records : List (List Vstep)) (new 
   -- ---- the slot of a change
 
   -- the row with a key at such a version is what the key's slot shows
-  pub slot_row : (k : Codes) (i v : ℕ) → IsSlotOf cols n c records k i → IsReadable n c v → row_at cols k (puts cols [] (rows_at n v records)) ≡ row_seen (visible n v (at records i))
+  pub slot_row : (k : Codes) (i v : ℕ) → IsSlotOf cols n c records k i → IsReadable n c v → row_at cols k (puts cols [] (rows_shown_at n v records)) ≡ row_seen (visible n v (at records i))
   slot_row k i v s r = elim (seen_cases (visible n v (at records i)) (not_past n c v phase (at records i) h.two h.half (slot_at i s.within) r.0)) [
-    | inl nothing ↦ go (row_at cols k (puts cols [] (rows_at n v records))) refl nothing ∙ sym (ap row_seen nothing)
-    | inr row ↦ subst (λ q. row_at cols q (puts cols [] (rows_at n v records)) ≡ row_seen (visible n v (at records i))) (s.own v row.0 r row.1) (shown_row cols n c records h.keys i v row.0 s.within r row.1 ∙ sym (ap row_seen row.1))
+    | inl nothing ↦ go (row_at cols k (puts cols [] (rows_shown_at n v records))) refl nothing ∙ sym (ap row_seen nothing)
+    | inr row ↦ subst (λ q. row_at cols q (puts cols [] (rows_shown_at n v records)) ≡ row_seen (visible n v (at records i))) (s.own v row.0 r row.1) (shown_row cols n c records h.keys i v row.0 s.within r row.1 ∙ sym (ap row_seen row.1))
   ]
     where
-      go : (o : Option Codes) → row_at cols k (puts cols [] (rows_at n v records)) ≡ o → visible n v (at records i) ≡ seen_nothing → row_at cols k (puts cols [] (rows_at n v records)) ≡ None
+      go : (o : Option Codes) → row_at cols k (puts cols [] (rows_shown_at n v records)) ≡ o → visible n v (at records i) ≡ seen_nothing → row_at cols k (puts cols [] (rows_shown_at n v records)) ≡ None
       go None e nothing = e
       go (Some t) e nothing =
           let f = row_slot cols n v records k t e in
@@ -247,7 +247,7 @@ module _ (cols : List ℕ) (n c phase : ℕ) (records : List (List Vstep)) (new 
     pub fits : is_fitting change (visible n c (at records i)) ≡ true
 
   abbrev pub next_rows : List Codes
-  next_rows = puts cols [] (rows_at n (suc c) records)
+  next_rows = puts cols [] (rows_shown_at n (suc c) records)
 
   chosen_shown : (change : Change) (i : ℕ) → IsNetChange cols next_rows new change → position (shows_key cols n (versions_in_use n c) (change_key cols change)) records ≡ Some i → IsChosen change i
   chosen_shown change i net e = record { slot = s; older = older (is_older c (at records i)) refl; fits = fits (is_older c (at records i)) refl }

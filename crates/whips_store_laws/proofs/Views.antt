@@ -20,10 +20,10 @@ use Rattle.whips_net.proofs.Merge.{puts}
 use Rattle.whips_net.proofs.Leads.{lead, go}
 use Rattle.whips_vnl.specs.Records.{seen_row, seen_nothing, seen_past, seen_by, seen_of_row, visible, step_for, step_of, steps_after, seen_after, is_fitting, IsBelow, IsWithinPhase}
 use Rattle.whips_vnl.specs.declared.record.Vstep.{Vstep}
-use Rattle.whips_store.specs.Versions.{versions_in_use, rows_at, row_seen, is_older}
+use Rattle.whips_store.specs.Versions.{versions_in_use, row_seen, is_older, rows_shown_at}
 use Rattle.whips_store.specs.Stores.{ViewState}
 use Rattle.whips_store.specs.Calls.{AreNetChanges, slots_needed, slot_for, records_with, changed_view}
-use Rattle.whips_store.specs.Sound.{IsSlot, IsReadable, HasSlotForKey, IsWritten, HaveWidth, IsSoundView}
+use Rattle.whips_store.specs.Sound.{IsSlot, IsReadable, HasSlotForKey, IsWritten, IsSoundView, StepsHaveWidth}
 use Rattle.whips_store_laws.proofs.Lists.{found_from, has_unreversed, all_set}
 use Rattle.whips_store_laws.proofs.Unions.{keyed_puts, keyed_all, from_union, counted}
 use Rattle.whips_store_laws.proofs.Slots.{older_below, below_same, row_of_seen}
@@ -48,15 +48,15 @@ next_version phase odd = elim (cases_lt ((phase + 1) / 2) (suc (phase / 2))) [
 pub view_chosen : (n phase : ℕ) (v : ViewState) (change : Change) (others : List Change) (two : 2 ≤ n) (h : IsSoundView n phase v) → v.left ≡ change ∷ others
     → (i : ℕ) × (slot_for n (phase / 2) v.columns.key (change_key v.columns.key change) v.records ≡ Some i) × IsChosen v.columns.key n (phase / 2) phase v.records v.next (view_slots n phase v two h) change i
 view_chosen n phase v change others two h e = chosen v.columns.key n (phase / 2) phase v.records v.next (view_slots n phase v two h) change
-    (net_change v.columns.key (puts v.columns.key [] (rows_at n (suc (phase / 2)) v.records)) v.next change others (h.left ∙ e))
+    (net_change v.columns.key (puts v.columns.key [] (rows_shown_at n (suc (phase / 2)) v.records)) v.next change others (h.left ∙ e))
 
 -- the rows of the steps have the width of the view's rows
-wide_take : (width n : ℕ) (steps : List Vstep) → HaveWidth width steps → HaveWidth width (take n steps)
+wide_take : (width n : ℕ) (steps : List Vstep) → StepsHaveWidth width steps → StepsHaveWidth width (take n steps)
 wide_take width zero steps h = tt
 wide_take width (suc n) [] h = tt
 wide_take width (suc n) (s ∷ steps) h = (h.0, wide_take width n steps h.1)
 
-wide_after : (width n vn : ℕ) (change : Change) (steps : List Vstep) → ((t : Codes) → seen_after change ≡ seen_row t → length t ≡ width) → HaveWidth width steps → HaveWidth width (steps_after n vn change steps)
+wide_after : (width n vn : ℕ) (change : Change) (steps : List Vstep) → ((t : Codes) → seen_after change ≡ seen_row t → length t ≡ width) → StepsHaveWidth width steps → StepsHaveWidth width (steps_after n vn change steps)
 wide_after width n vn change steps w h = wide_take width n (step_of vn change ∷ steps) (made change w, h)
   where
     made : (change : Change) → ((t : Codes) → seen_after change ≡ seen_row t → length t ≡ width) → (t : Codes) → (step_of vn change).row ≡ Some t → length t ≡ width
@@ -77,20 +77,20 @@ view_changed n phase v change others two h e =
 
     made : (i : ℕ) → IsChosen v.columns.key n (phase / 2) phase v.records v.next slots change i → IsSoundView n phase (record v { records = set v.records i (steps_after n (suc (phase / 2)) change (at v.records i)); left = others })
     made i s =
-        let net = net_change v.columns.key (puts v.columns.key [] (rows_at n (suc (phase / 2)) v.records)) v.next change others (h.left ∙ e) in
+        let net = net_change v.columns.key (puts v.columns.key [] (rows_shown_at n (suc (phase / 2)) v.records)) v.next change others (h.left ∙ e) in
         let odd = active_from n phase v change others h e in
         let next = next_version phase odd in
         record {
           current = h.current;
           new = h.new;
           records = slots_after v.columns.key n (phase / 2) phase v.records v.next slots change i s net.later next;
-          widths = all_set (HaveWidth (length v.columns.kinds)) v.records i (steps_after n (suc (phase / 2)) change (at v.records i)) h.widths
-              (wide_after (length v.columns.kinds) n (suc (phase / 2)) change (at v.records i) (wide_change (length v.columns.kinds) v.columns.key v.next change h.new.widths net.later) (all_at (HaveWidth (length v.columns.kinds)) v.records i [] h.widths s.slot.within));
+          widths = all_set (StepsHaveWidth (length v.columns.kinds)) v.records i (steps_after n (suc (phase / 2)) change (at v.records i)) h.widths
+              (wide_after (length v.columns.kinds) n (suc (phase / 2)) change (at v.records i) (wide_change (length v.columns.kinds) v.columns.key v.next change h.new.widths net.later) (all_at (StepsHaveWidth (length v.columns.kinds)) v.records i [] h.widths s.slot.within));
           keys = keys_after v.columns.key n (phase / 2) phase v.records v.next slots change i s net.later next;
           written = written_after v.columns.key n (phase / 2) phase v.records v.next slots change i s net.later next;
           committed = ap (λ rows. puts v.columns.key [] rows) (rows_stay v.columns.key n (phase / 2) phase v.records v.next slots change i s net.later next (phase / 2) (omega arith) (omega arith)) ∙ h.committed;
           left = ap (λ rows. net_changes v.columns.key rows v.next) (next_after v.columns.key n (phase / 2) phase v.records v.next slots change i s net.later next)
-              ∙ go v.columns.key (puts v.columns.key [] (rows_at n (suc (phase / 2)) v.records)) v.next change others (keyed_puts v.columns.key (rows_at n (suc (phase / 2)) v.records) [] tt) h.new.keyed (h.left ∙ e);
+              ∙ go v.columns.key (puts v.columns.key [] (rows_shown_at n (suc (phase / 2)) v.records)) v.next change others (keyed_puts v.columns.key (rows_shown_at n (suc (phase / 2)) v.records) [] tt) h.new.keyed (h.left ∙ e);
           room = let r = h.room in omega (arith, need_stays v.columns.key n (phase / 2) phase v.records v.next slots change i s net.later next, length-set v.records i (steps_after n (suc (phase / 2)) change (at v.records i)));
           numbers = h.numbers;
           new_numbers = h.new_numbers;
@@ -117,10 +117,10 @@ pub none_written : (cols : List ℕ) (n phase c : ℕ) (new : List Codes) (recor
 none_written cols n phase c new records le h = all_mapped (IsSlot n phase) (λ steps. is_older c steps ≡ false → IsWritten cols n c new steps) records
     (λ steps s f. absurd (let t = within_older phase c steps s.within le in cc)) h
 
-pub next_same : (n phase c : ℕ) (records : List (List Vstep)) → (phase + 1) / 2 ≤ c → AllByRecursion (IsSlot n phase) records → rows_at n (suc c) records ≡ rows_at n c records
+pub next_same : (n phase c : ℕ) (records : List (List Vstep)) → (phase + 1) / 2 ≤ c → AllByRecursion (IsSlot n phase) records → rows_shown_at n (suc c) records ≡ rows_shown_at n c records
 next_same n phase c [] le h = refl
 next_same n phase c (steps ∷ records) le h =
-    ap (λ s. cons_option (row_seen s) (rows_at n (suc c) records)) (below_same n c steps (older_below c steps (within_older phase c steps h.0.within le)))
+    ap (λ s. cons_option (row_seen s) (rows_shown_at n (suc c) records)) (below_same n c steps (older_below c steps (within_older phase c steps h.0.within le)))
     ∙ ap (λ l. cons_option (row_seen (visible n c steps)) l) (next_same n phase c records le h.1)
 
 -- ---- a transaction begins
@@ -137,8 +137,8 @@ view_begun n phase v after changes even h table net room =
       widths = h.widths;
       keys = subst (λ c. HasSlotForKey v.columns.key n c v.records) same h.keys;
       written = none_written v.columns.key n phase (suc phase / 2) after v.records (omega arith) h.records;
-      committed = subst (λ c. puts v.columns.key [] (rows_at n c v.records) ≡ v.current) same h.committed;
-      left = subst (λ c. net_changes v.columns.key (puts v.columns.key [] (rows_at n (suc c) v.records)) after ≡ changes) same
+      committed = subst (λ c. puts v.columns.key [] (rows_shown_at n c v.records) ≡ v.current) same h.committed;
+      left = subst (λ c. net_changes v.columns.key (puts v.columns.key [] (rows_shown_at n (suc c) v.records)) after ≡ changes) same
           (ap (λ rows. net_changes v.columns.key rows after) (ap (λ rows. puts v.columns.key [] rows) (next_same n phase (phase / 2) v.records low h.records) ∙ h.committed) ∙ sym net.net);
       room = subst (λ c. slots_needed n c v after ≤ length v.records) same room;
       numbers = h.numbers;
@@ -192,19 +192,19 @@ module _ (n phase : ℕ) (v : ViewState) (two : 2 ≤ n) (odd : phase % 2 ≡ 1)
   needed_still : slots_needed n (suc (phase / 2)) v v.next ≤ length v.records
   needed_still =
       let fewer = not_more v.columns.key
-      (union_rows v.columns.key (reverse (map (λ w. rows_at n w v.records) (versions_in_use n (suc (phase / 2))) ++ v.next ∷ [])))
-      (union_rows v.columns.key (reverse (map (λ w. rows_at n w v.records) (versions_in_use n (phase / 2)) ++ v.next ∷ [])))
-      (keyed_all v.columns.key (reverse (map (λ w. rows_at n w v.records) (versions_in_use n (suc (phase / 2))) ++ v.next ∷ [])) [] tt) among in
-      let room : length (union_rows v.columns.key (reverse (map (λ w. rows_at n w v.records) (versions_in_use n (phase / 2)) ++ v.next ∷ []))) ≤ length v.records = h.room in
+      (union_rows v.columns.key (reverse (map (λ w. rows_shown_at n w v.records) (versions_in_use n (suc (phase / 2))) ++ v.next ∷ [])))
+      (union_rows v.columns.key (reverse (map (λ w. rows_shown_at n w v.records) (versions_in_use n (phase / 2)) ++ v.next ∷ [])))
+      (keyed_all v.columns.key (reverse (map (λ w. rows_shown_at n w v.records) (versions_in_use n (suc (phase / 2))) ++ v.next ∷ [])) [] tt) among in
+      let room : length (union_rows v.columns.key (reverse (map (λ w. rows_shown_at n w v.records) (versions_in_use n (phase / 2)) ++ v.next ∷ []))) ≤ length v.records = h.room in
       omega arith
     where
       slots : Slots v.columns.key n (phase / 2) phase v.records v.next
       slots = view_slots n phase v two h
 
-      in_values : (t : Codes) (ts : List Codes) → Has t ts → Has ts (map (λ w. rows_at n w v.records) (versions_in_use n (suc (phase / 2)))) ⊎ Has ts (v.next ∷ [])
-          → is_some (row_at v.columns.key (at_columns v.columns.key t) (union_rows v.columns.key (reverse (map (λ w. rows_at n w v.records) (versions_in_use n (phase / 2)) ++ v.next ∷ [])))) ≡ true
+      in_values : (t : Codes) (ts : List Codes) → Has t ts → Has ts (map (λ w. rows_shown_at n w v.records) (versions_in_use n (suc (phase / 2)))) ⊎ Has ts (v.next ∷ [])
+          → is_some (row_at v.columns.key (at_columns v.columns.key t) (union_rows v.columns.key (reverse (map (λ w. rows_shown_at n w v.records) (versions_in_use n (phase / 2)) ++ v.next ∷ [])))) ≡ true
       in_values t ts k (inl g) =
-          let m = has_before (λ w. rows_at n w v.records) ts (versions_in_use n (suc (phase / 2))) g in
+          let m = has_before (λ w. rows_shown_at n w v.records) ts (versions_in_use n (suc (phase / 2))) g in
           let u = used n (suc (phase / 2)) m.0 m.1 in
           let f = found_from (λ steps. row_seen (visible n m.0 steps)) v.records [] t (subst (Has t) m.2 k) in
           let low = u.0 in
@@ -215,21 +215,21 @@ module _ (n phase : ℕ) (v : ViewState) (two : 2 ≤ n) (odd : phase % 2 ≡ 1)
         | inr none ↦ absurd (has_none ts none)
       ]
 
-      among : (t : Codes) → Has t (union_rows v.columns.key (reverse (map (λ w. rows_at n w v.records) (versions_in_use n (suc (phase / 2))) ++ v.next ∷ [])))
-          → is_some (row_at v.columns.key (at_columns v.columns.key t) (union_rows v.columns.key (reverse (map (λ w. rows_at n w v.records) (versions_in_use n (phase / 2)) ++ v.next ∷ [])))) ≡ true
+      among : (t : Codes) → Has t (union_rows v.columns.key (reverse (map (λ w. rows_shown_at n w v.records) (versions_in_use n (suc (phase / 2))) ++ v.next ∷ [])))
+          → is_some (row_at v.columns.key (at_columns v.columns.key t) (union_rows v.columns.key (reverse (map (λ w. rows_shown_at n w v.records) (versions_in_use n (phase / 2)) ++ v.next ∷ [])))) ≡ true
       among t k =
-          let values = reverse (map (λ w. rows_at n w v.records) (versions_in_use n (suc (phase / 2))) ++ v.next ∷ []) in
+          let values = reverse (map (λ w. rows_shown_at n w v.records) (versions_in_use n (suc (phase / 2))) ++ v.next ∷ []) in
           let found = row_of_key v.columns.key t (union_rows v.columns.key values) (keyed_all v.columns.key values [] tt) k in
           elim (from_union v.columns.key (at_columns v.columns.key t) t values [] found) [
-            | inl g ↦ in_values t g.0 g.2 (has_either g.0 (map (λ w. rows_at n w v.records) (versions_in_use n (suc (phase / 2)))) (v.next ∷ []) (has_unreversed g.0 (map (λ w. rows_at n w v.records) (versions_in_use n (suc (phase / 2))) ++ v.next ∷ []) g.1))
+            | inl g ↦ in_values t g.0 g.2 (has_either g.0 (map (λ w. rows_shown_at n w v.records) (versions_in_use n (suc (phase / 2)))) (v.next ∷ []) (has_unreversed g.0 (map (λ w. rows_shown_at n w v.records) (versions_in_use n (suc (phase / 2))) ++ v.next ∷ []) g.1))
             | inr none ↦ absurd (cc)
           ]
 
   pub view_published : v.left ≡ [] → IsSoundView n (suc phase) (record v { current = v.next })
   view_published none =
-      let whole : puts v.columns.key [] (rows_at n (suc (phase / 2)) v.records) ≡ v.next =
-      sym (ap (all_changed_rows v.columns.key (puts v.columns.key [] (rows_at n (suc (phase / 2)) v.records))) (h.left ∙ none))
-      ∙ lead v.columns.key (puts v.columns.key [] (rows_at n (suc (phase / 2)) v.records)) v.next (keyed_puts v.columns.key (rows_at n (suc (phase / 2)) v.records) [] tt) h.new.keyed in
+      let whole : puts v.columns.key [] (rows_shown_at n (suc (phase / 2)) v.records) ≡ v.next =
+      sym (ap (all_changed_rows v.columns.key (puts v.columns.key [] (rows_shown_at n (suc (phase / 2)) v.records))) (h.left ∙ none))
+      ∙ lead v.columns.key (puts v.columns.key [] (rows_shown_at n (suc (phase / 2)) v.records)) v.next (keyed_puts v.columns.key (rows_shown_at n (suc (phase / 2)) v.records) [] tt) h.new.keyed in
       record {
         current = h.new;
         new = h.new;
@@ -237,8 +237,8 @@ module _ (n phase : ℕ) (v : ViewState) (two : 2 ≤ n) (odd : phase % 2 ≡ 1)
         widths = h.widths;
         keys = subst (λ c. HasSlotForKey v.columns.key n c v.records) half keys_published;
         written = none_written v.columns.key n phase (suc phase / 2) v.next v.records (omega arith) h.records;
-        committed = subst (λ c. puts v.columns.key [] (rows_at n c v.records) ≡ v.next) half whole;
-        left = subst (λ c. net_changes v.columns.key (puts v.columns.key [] (rows_at n (suc c) v.records)) v.next ≡ v.left) half
+        committed = subst (λ c. puts v.columns.key [] (rows_shown_at n c v.records) ≡ v.next) half whole;
+        left = subst (λ c. net_changes v.columns.key (puts v.columns.key [] (rows_shown_at n (suc c) v.records)) v.next ≡ v.left) half
             (ap (λ rows. net_changes v.columns.key (puts v.columns.key [] rows) v.next) (next_same n phase (suc (phase / 2)) v.records (omega arith) h.records) ∙ h.left);
         room = subst (λ c. slots_needed n c v v.next ≤ length v.records) half needed_still;
         numbers = h.new_numbers;
@@ -264,10 +264,10 @@ slot_found n phase v change others two h e none =
     absurd (cc)
 
 -- a row that is seen has the width of the view's rows
-pub wide_seen : (width n v : ℕ) (steps : List Vstep) (t : Codes) → HaveWidth width steps → visible n v steps ≡ seen_row t → length t ≡ width
+pub wide_seen : (width n v : ℕ) (steps : List Vstep) (t : Codes) → StepsHaveWidth width steps → visible n v steps ≡ seen_row t → length t ≡ width
 wide_seen width n v steps t h e = go n (length steps) (step_for v steps) (λ s f. wide_step steps h s f) e
   where
-    wide_step : (steps : List Vstep) → HaveWidth width steps → (s : Vstep) → step_for v steps ≡ Some s → (t : Codes) → s.row ≡ Some t → length t ≡ width
+    wide_step : (steps : List Vstep) → StepsHaveWidth width steps → (s : Vstep) → step_for v steps ≡ Some s → (t : Codes) → s.row ≡ Some t → length t ≡ width
     wide_step [] h s f = absurd (cc)
     wide_step (r ∷ steps) h s f = by_test (leb r.vn v) (λ g. wide_step steps h.1 s g) f
       where
