@@ -1,5 +1,5 @@
 //! Row sets become transactions.
-ghost use Rattle.std.specs.Prelude.{◌≡◌, ◌∷◌, [], ◌++◌, cond, not, max, List, length, map, filter, fold, IfOk, OnOk, OnErr};
+ghost use Rattle.std.specs.Prelude.{◌≡◌, ◌∷◌, [], ◌++◌, if◌then◌else◌, not, max, List, length, map, filter, fold, IfOk, OnOk, OnErr};
 ghost use Rattle.whips_lists.specs.Lists.{changed_at};
 ghost use Rattle.whips_flow.specs.Cuts.{cut_after};
 ghost use Rattle.whips_paint.specs.Table.{with_rows};
@@ -45,8 +45,8 @@ fn add_to_one(
     taken: &mut ActionLists,
     left: &mut ActionLists,
 ) -> Result<(), NoMemory>
-    ensures taken { OnOk result (taken.new ≡ taken.old ++ cond is_taken (list ∷ []) []) }
-    ensures left { OnOk result (left.new ≡ left.old ++ cond (not is_taken) (list ∷ []) []) }
+    ensures taken { OnOk result (taken.new ≡ taken.old ++ (if is_taken then list ∷ [] else [])) }
+    ensures left { OnOk result (left.new ≡ left.old ++ (if not is_taken then list ∷ [] else [])) }
 {
     if is_taken {
         taken.push(list)?;

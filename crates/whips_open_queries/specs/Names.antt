@@ -1,5 +1,5 @@
 -- The names of open queries, and their order.
-use Rattle.std.specs.Prelude.{◌≡◌, ℕ, suc, cond, List, [], ◌∷◌, Option, Some, None}
+use Rattle.std.specs.Prelude.{◌≡◌, ℕ, suc, if◌then◌else◌, List, [], ◌∷◌, Option, Some, None}
 use Rattle.std.specs.Option.{option_map}
 use Rattle.std.specs.List.{AllByRecursion}
 use Rattle.std.specs.declared.cmp.Ordering.TheVariants.{Less}
@@ -22,4 +22,4 @@ AreInOrder (q ∷ queries) = AllByRecursion (λ r. IsNamedBelow (name_codes r) q
 -- The place of the first query with this name.
 abbrev pub place_named : ℕ → ℕ → List Query → Option ℕ
 place_named transaction origin [] = None
-place_named transaction origin (q ∷ queries) = cond (is_named transaction origin q) (Some 0) (option_map (λ i. suc i) (place_named transaction origin queries))
+place_named transaction origin (q ∷ queries) = if is_named transaction origin q then Some 0 else option_map (λ i. suc i) (place_named transaction origin queries)
