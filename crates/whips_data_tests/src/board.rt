@@ -165,18 +165,21 @@ fn store_and_load<R: Threads + Sync>(
     join(
         rt,
         move || -> Pen<Rising>
-            requires { (board.now.first ≡ 0 ∷ []) × (pen ≡ record { board = board.now; history = (0, 1) ∷ [] }) }
+            requires { (board.now.first ≡ 0 ∷ [])
+                × (pen ≡ record { board = board.now; history = (0, 1) ∷ [] }) }
             ensures { result.board ≡ board.entry.now }
         { store_two(board, pen) },
         move || -> (Eye<Rising>, u64)
-            requires { (board.now.first ≡ 0 ∷ []) × (eye.board ≡ board.now) × (note.board ≡ board.now) }
+            requires { (board.now.first ≡ 0 ∷ []) × (eye.board ≡ board.now)
+                × (note.board ≡ board.now) }
             ensures { result.0.board ≡ board.entry.now }
         { learn_and_load(board, eye, note) },
     )
 }
 
 fn store_two(board: &Board<Rising>, mut pen: Pen<Rising>) -> Pen<Rising>
-    requires { (board.now.first ≡ 0 ∷ []) × (pen ≡ record { board = board.now; history = (0, 1) ∷ [] }) }
+    requires { (board.now.first ≡ 0 ∷ [])
+        × (pen ≡ record { board = board.now; history = (0, 1) ∷ [] }) }
     ensures { result.board ≡ board.now }
 {
     pen.store(board, 0, 2);

@@ -123,9 +123,11 @@ fn two(alloc: Global) -> Result<Relation, NoMemory>
 /// Whether the rows are these, by each call that reads them, and no other key is there.
 fn holds(relation: &Relation, codes: &[&[u64]]) -> Result<bool, NoMemory> {
     let tuples = relation.tuples()?;
-    Ok(are_rows(tuples.as_slice(), codes)
-        & (relation.len() == codes.len())
-        & are_found(relation, tuples.as_slice()))
+    Ok(
+        are_rows(tuples.as_slice(), codes)
+            & (relation.len() == codes.len())
+            & are_found(relation, tuples.as_slice()),
+    )
 }
 
 /// Whether each of these rows is found by its key.
@@ -163,8 +165,7 @@ fn rows_come_in_key_order(rt: HostRuntime) {
 /// Whether the row (3, 6) is read by its key, and the row (2, 4) by its place.
 fn is_found(relation: &Relation, key: &Tuple) -> bool {
     relation.len() == 2
-        && are_codes(relation.get(key), &[3, 6])
-            & (relation.row(0).codes() == [2, 4].as_slice())
+        && are_codes(relation.get(key), &[3, 6]) & (relation.row(0).codes() == [2, 4].as_slice())
 }
 
 /// Whether deleting the key twice gives its row and then none, and once more changes nothing.
@@ -178,10 +179,12 @@ fn goes_once(relation: &mut Relation, key: &Tuple) -> Result<bool, NoMemory> {
 /// Whether the key is gone from the relation once it is deleted, and from its copy it isn't.
 fn copy_stays(relation: &mut Relation, key: &Tuple) -> Result<bool, NoMemory> {
     let copy = relation.copy()?;
-    Ok(goes_once(relation, key)?
-        & holds(relation, &[&[2, 4]])?
-        & holds(&copy, &[&[2, 4], &[3, 6]])?
-        & (relation.chunks().len() == 1))
+    Ok(
+        goes_once(relation, key)?
+            & holds(relation, &[&[2, 4]])?
+            & holds(&copy, &[&[2, 4], &[3, 6]])?
+            & (relation.chunks().len() == 1),
+    )
 }
 
 fn is_deleted(alloc: Global) -> Result<bool, NoMemory> {

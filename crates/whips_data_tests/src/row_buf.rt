@@ -9,7 +9,11 @@ use whips_row_buf::RowBuf;
 
 /// A buffer for three rows of two number columns, of which the second is the key.
 fn three(alloc: Global) -> Result<RowBuf, NoMemory>
-    ensures { IfOk result (λ b. b ≡ record { columns = record { kinds = Number ∷ Number ∷ []; key = 1 ∷ [] }; rows = []; room = 3 }) }
+    ensures { IfOk result (λ b. b ≡ record {
+      columns = record { kinds = Number ∷ Number ∷ []; key = 1 ∷ [] };
+      rows = [];
+      room = 3;
+    }) }
 {
     let schema = schema(alloc, &[Kind::Number, Kind::Number], &[1])?;
     RowBuf::make(alloc, &schema, 3)

@@ -10,11 +10,13 @@ fn keeps_rows(alloc: Global) -> Result<bool, NoMemory> {
     let second = Tuple::from_slice(alloc, &[1, 9])?;
     let rec = changed(None, Change::Add(first), 1, 2);
     let rec = changed(Some(rec), Change::Replace(second), 2, 2);
-    Ok((rec.len() == 2)
-        & shows(&rec, 3, 9)
-        & shows(&rec, 2, 9)
-        & shows(&rec, 1, 5)
-        & is_past(&rec, 0))
+    Ok(
+        (rec.len() == 2)
+            & shows(&rec, 3, 9)
+            & shows(&rec, 2, 9)
+            & shows(&rec, 1, 5)
+            & is_past(&rec, 0),
+    )
 }
 
 #[test]

@@ -33,11 +33,12 @@ pub struct Parts<'a> {
 /// The parts of a view.
 pub fn view_parts(alloc: Global, from: Parts) -> Result<ViewParts, NoMemory>
     ensures { IfOk result (λ p. p ≡ record {
-        relations = from.entry.relations.now;
-        homes = from.entry.homes.now;
-        equal = from.entry.equal.now;
-        conds = from.entry.conds.now;
-        out = from.entry.out.now }) }
+      relations = from.entry.relations.now;
+      homes = from.entry.homes.now;
+      equal = from.entry.equal.now;
+      conds = from.entry.conds.now;
+      out = from.entry.out.now;
+    }) }
 {
     let relations = Places::of(Vec::from_slice(alloc, from.relations)?);
     let homes = Places::of(Vec::from_slice(alloc, from.homes)?);
@@ -56,11 +57,12 @@ pub fn view_parts(alloc: Global, from: Parts) -> Result<ViewParts, NoMemory>
 /// The view of these parts over relations of these schemas.
 pub fn view_over(alloc: Global, schemas: &Vec<Schema>, from: Parts) -> Result<ViewDef, ViewErr>
     ensures { IfOk result (λ v. v ≡ view_of schemas.now.items (record {
-        relations = from.entry.relations.now;
-        homes = from.entry.homes.now;
-        equal = from.entry.equal.now;
-        conds = from.entry.conds.now;
-        out = from.entry.out.now })) }
+      relations = from.entry.relations.now;
+      homes = from.entry.homes.now;
+      equal = from.entry.equal.now;
+      conds = from.entry.conds.now;
+      out = from.entry.out.now;
+    })) }
 {
     ViewDef::make(alloc, schemas, view_parts(alloc, from)?)
 }
@@ -68,11 +70,12 @@ pub fn view_over(alloc: Global, schemas: &Vec<Schema>, from: Parts) -> Result<Vi
 /// The view of these parts over up to three relations of pairs.
 pub fn view(alloc: Global, from: Parts) -> Result<ViewDef, ViewErr>
     ensures { IfOk result (λ v. v ≡ view_of three_columns (record {
-        relations = from.entry.relations.now;
-        homes = from.entry.homes.now;
-        equal = from.entry.equal.now;
-        conds = from.entry.conds.now;
-        out = from.entry.out.now })) }
+      relations = from.entry.relations.now;
+      homes = from.entry.homes.now;
+      equal = from.entry.equal.now;
+      conds = from.entry.conds.now;
+      out = from.entry.out.now;
+    })) }
 {
     let schemas = pair_schemas(alloc)?;
     view_over(alloc, &schemas, from)
