@@ -1,9 +1,9 @@
 //! Transactions on a store of one view of two relations.
 //!
 //! The rows' keys are all the numbers below the number of slots but one. Each transaction takes out a row by its key in
-//! the second relation, puts in the one that the transaction before took out, and gives a third row another code. The
-//! parts of a transaction aren't inlined, so that a profile tells them apart. The key and the rows that a transaction is given
-//! are made before it and let go after it, outside these parts.
+//! the second relation, puts in the one that the transaction before took out, and gives a third row another code. The key
+//! and the rows that it is given are made before it and let go after it. The parts of a transaction aren't inlined, so that
+//! a profile tells them apart.
 ghost use Rattle.std.specs.Prelude.{◌≡◌, ◌<◌, length, IfOk};
 ghost use Rattle.whips_changes.specs.Changes.{net_changes};
 ghost use Rattle.whips_store.specs.Calls.{AreNet};
