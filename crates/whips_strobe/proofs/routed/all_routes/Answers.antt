@@ -8,7 +8,7 @@ use Rattle.whips_strobe.proofs.routed.all_routes.Goals as goal
 pub loop-origin-preserved : goal.loop-origin-preserved
 loop-origin-preserved c =
     values_next (asked_sources (keyed c.args.view.now)) c.loop-origin.origin c.loop-origin.routes.items c.push.new.self.items c.in_ok-route.field-0
-      c.loop-origin.invariant c.in_ok-route.ensures c.in_ok-push.ensures.items
+    c.loop-origin.invariant c.in_ok-route.ensures c.in_ok-push.ensures.items
 
 pub returns : goal.returns
 returns c =
