@@ -51,7 +51,7 @@ module _ (v : KeyedView) (tables : List (List Codes)) (rows : List Codes) (m : M
         | inl same ↦ absurd (misses _ (subst (λ z. Meets v z t) e (subst (λ z. Meets v j z) same meets)) miss)
         | inr k ↦ subst (λ z. Has u (get_or tables z [])) (sym e) k
       ]
-      | inr ne ↦ subst (λ z. Has u z) (changed_here, changed_off v tables s.good i lt _ j ne) h
+      | inr ne ↦ subst (λ z. Has u z) (changed_off v tables s.good i lt _ j ne) h
     ]
 
     pub insertion_missed : Keeps v grown rows m

@@ -84,7 +84,7 @@ module _ (v : KeyedView) where
   fit_rest T given i parts good d fit j k =
       let f = fit j (has_later j i parts k) in
       let ne : j ≢ i = λ e. d.0 (subst (λ z. Has z parts) e k) in
-      (f.0, f.1, λ t h u g. f.2 t h u (subst (λ z. Has u z) (changed_here, changed_off v T good i (fit i (has_first i parts)).0 _ j ne) g), f.3)
+      (f.0, f.1, λ t h u g. f.2 t h u (subst (λ z. Has u z) (changed_off v T good i (fit i (has_first i parts)).0 _ j ne) g), f.3)
 
   module _ (columns : Columns) (given : ℕ → List Codes) where
     pub parts_stay : (parts : List ℕ) (T : List (List Codes)) (j : ℕ) (u : Codes) → AreTables v T → AreDistinct parts → Fit T given parts → Has u (get_or T j []) → Has u (get_or (with_parts T given parts) j [])
@@ -94,7 +94,7 @@ module _ (v : KeyedView) where
         parts_stay parts _ j u (more_tables T i (given i) good f.0) d.1 (fit_rest T given i parts good d fit) (elim (cases_eq j i) [
           | inl e ↦ subst (λ z. Has u (get_or (with_tuples v T i (given i)) z [])) (sym e) (subst (λ z. Has u z) (sym (changed_here v T good i f.0 _))
               (puts_keep (get_or v.keys i []) u (given i) (get_or T i []) (λ t k. f.2 t k u (subst (λ z. Has u (get_or T z [])) e h)) (subst (λ z. Has u (get_or T z [])) e h)))
-          | inr ne ↦ subst (λ z. Has u z) (sym (changed_here, changed_off v T good i f.0 _ j ne)) h
+          | inr ne ↦ subst (λ z. Has u z) (sym (changed_off v T good i f.0 _ j ne)) h
         ])
 
     pub parts_have : (parts : List ℕ) (T : List (List Codes)) (j : ℕ) (u : Codes) → AreTables v T → AreDistinct parts → Fit T given parts → Has j parts → Has u (given j) → Has u (get_or (with_parts T given parts) j [])
@@ -119,7 +119,7 @@ module _ (v : KeyedView) where
               | inl m ↦ inl (subst (λ z. Has u (given z)) (sym e) m)
               | inr m ↦ inr (subst (λ z. Has u (get_or T z [])) (sym e) m)
             ]
-            | inr ne ↦ inr (subst (λ z. Has u z) (changed_here, changed_off v T good i f.0 _ j ne) k)
+            | inr ne ↦ inr (subst (λ z. Has u z) (changed_off v T good i f.0 _ j ne) k)
           ]
         ]
 

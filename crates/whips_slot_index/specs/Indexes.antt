@@ -1,5 +1,5 @@
 -- An index of a view's slots by key, with the free ones.
-use Rattle.std.specs.Prelude.{◌≡◌, ◌⊎◌, ◌↔◌, ℕ, ◌<◌, ◌&&◌, ◌||◌, not, cond, Bool, true, false, List, [], ◌∷◌, ◌++◌, length, Option, Some, None, is_none, slice_index_or, nat_eq}
+use Rattle.std.specs.Prelude.{◌≡◌, ◌≢◌, ◌⊎◌, ◌↔◌, ℕ, ◌<◌, ◌&&◌, ◌||◌, not, cond, Bool, true, false, List, [], ◌∷◌, ◌++◌, length, Option, Some, None, is_none, slice_index_or, nat_eq}
 use Rattle.std.specs.List.{list_any, filter, position}
 use Rattle.std.specs.Ordering.{nat_cmp}
 use Rattle.std.specs.BTreeMap.{is_at}
@@ -63,6 +63,11 @@ pub record IsNotedAt (key : Codes) (i : ℕ) (old new : IndexData) : Type 0 wher
 pub record ForgetsAt (i : ℕ) (old new : IndexData) : Type 0 where
   pub keys : (k : Codes) → (noted new k ≡ noted old k) ⊎ (noted old k ≡ Some i)
   pub others : new ≡ record old { slots = new.slots }
+
+-- The slot isn't noted for the row's key.
+abbrev pub IsForgotten : List ℕ → Option Codes → ℕ → IndexData → Type 0
+IsForgotten columns None i index = Unit {0}
+IsForgotten columns (Some t) i index = noted index (at_columns columns t) ≢ Some i
 
 -- By the row that the slot shows at a version in use.
 abbrev pub IsKeyVisited : List ℕ → Option Codes → ℕ → IndexData → IndexData → Type 0

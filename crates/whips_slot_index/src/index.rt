@@ -9,9 +9,9 @@ ghost use Rattle.whips_vnl.specs.Records.{steps_or_none};
 ghost use Rattle.whips_store.specs.Versions.{versions_in_use, shows_key, is_free};
 ghost use Rattle.whips_store.specs.Calls.{slot_for};
 ghost use Rattle.whips_store.specs.Sound.{HasSlotForKey, IsSlot, StepsHaveWidth};
-ghost use Rattle.whips_slot_index.specs.Slots.{all_steps, AreKept, row_among};
+ghost use Rattle.whips_slot_index.specs.Slots.{all_steps, AreKept, newest_row, row_among};
 ghost use Rattle.whips_lists.specs.Members.{Has};
-ghost use Rattle.whips_slot_index.specs.Indexes.{is_among, IsIndex, AreVisited, IsNotedAt, ForgetsAt, IsKeyVisited, IsSlotVisited, IsTaken, unknown_keys};
+ghost use Rattle.whips_slot_index.specs.Indexes.{is_among, IsIndex, AreVisited, IsNotedAt, ForgetsAt, IsForgotten, IsKeyVisited, IsSlotVisited, IsTaken, unknown_keys};
 
 use crate::slots::{is_slot_free, newest_row, nothing_at, row_in_use, shows_change};
 use indexmap::IndexMap;
@@ -143,7 +143,9 @@ impl SlotIndex {
     /// Where the slot is noted for its newest row's key, it is so no more.
     fn forget(&mut self, schema: &Schema, slot: &Option<Vrec>, i: usize) -> Result<(), NoMemory>
         requires { StepsHaveWidth (length schema.now.kinds) (steps_or_none slot.now) }
-        ensures { OnOk result (ForgetsAt i self.old self.new) }
+        ensures only { OnOk result (ForgetsAt i self.old self.new) }
+        ensures gone { OnOk result (IsForgotten schema.now.key
+            (newest_row (steps_or_none slot.now)) i self.new) }
     {
         let row = match newest_row(slot) {
             Some(row) => row,

@@ -1,5 +1,5 @@
 //! Rows of three numbers: the keys of two relations, which are equal here, and a code.
-ghost use Rattle.std.specs.Prelude.{◌≡◌};
+ghost use Rattle.std.specs.Prelude.{◌≡◌, length, true};
 ghost use Rattle.std.specs.List.{list_all};
 ghost use Rattle.whips_store_bench.specs.Numbers.{are_within, brings_within};
 ghost use Rattle.whips_store_bench.specs.Later.{IsLater};
@@ -32,62 +32,100 @@ pub fn put(alloc: Global, pairs: &mut Relation, key: u64, code: u64) -> Result<(
     Ok(())
 }
 
-/// Puts the row of this key and code in, where no row has the key.
-pub fn put_new(alloc: Global, draft: &mut Draft, key: u64, code: u64) -> Result<(), Stop>
+/// What one transaction changes. Its caller makes it beforehand.
+#[derive(Drop)]
+pub struct Input {
+    /// The key in the second relation of the row that goes.
+    gone: Tuple,
+    /// The row that comes.
+    new: Tuple,
+    /// The row that comes in the place of the one with its key.
+    other: Tuple,
+}
+
+/// The row of this key and code.
+fn row(alloc: Global, key: u64, code: u64) -> Result<Tuple, NoMemory> {
+    Tuple::from_slice(alloc, &[key, key, code])
+}
+
+/// The row with the key `gone` goes, that with the key `new` comes, and that with the key `other` gets the code.
+pub fn make_input(
+    alloc: Global,
+    gone: u64,
+    new: u64,
+    other: u64,
+    code: u64,
+) -> Result<Input, NoMemory> {
+    Ok(Input {
+        gone: Tuple::from_slice(alloc, &[gone])?,
+        new: row(alloc, new, code)?,
+        other: row(alloc, other, code)?,
+    })
+}
+
+/// Whether the row is as wide as those of the draft.
+fn is_wide(draft: &Draft, row: &Tuple) -> bool
+    ensures { result ≡ true → length row.now ≡ length draft.now.columns.kinds }
+{
+    row.len() == draft.rows().schema().kinds().len()
+}
+
+/// Puts the row in, where no row has the key.
+fn put_new(draft: &mut Draft, row: &Tuple) -> Result<(), Stop>
     ensures { IsLater draft.old draft.new }
 {
-    if draft.rows().schema().kinds().len() != 3 {
+    if !is_wide(draft, row) {
         return Err(Stop::Refused);
     }
-    draft.put_new(Tuple::from_slice(alloc, &[key, key, code])?)?;
+    draft.put_new(row.copy()?)?;
     Ok(())
 }
 
-/// Takes out the row with this key in both relations.
-fn take(alloc: Global, draft: &mut Draft, first: u64, second: u64) -> Result<(), Stop>
+/// Takes out the row with the key of this one.
+fn take_row(draft: &mut Draft, row: &Tuple) -> Result<(), Stop>
     ensures { IsLater draft.old draft.new }
 {
-    let key = Tuple::from_slice(alloc, &[first, second])?;
-    draft.remove(&key)?;
-    Ok(())
-}
-
-/// Takes out the row.
-fn take_row(alloc: Global, draft: &mut Draft, row: &[u64]) -> Result<(), Stop>
-    ensures { IsLater draft.old draft.new }
-{
-    match row {
-        [first, second, ..] => take(alloc, draft, *first, *second),
-        _ => Err(Stop::Refused),
+    if !is_wide(draft, row) {
+        return Err(Stop::Refused);
     }
+    draft.remove_like(row)?;
+    Ok(())
 }
 
 /// Takes out these rows.
-fn take_rows(alloc: Global, draft: &mut Draft, rows: &[Tuple]) -> Result<(), Stop>
+fn take_rows(draft: &mut Draft, rows: &[Tuple]) -> Result<(), Stop>
     ensures { IsLater draft.old draft.new }
 {
     for row in rows {
-        take_row(alloc, draft, row.codes())?;
+        take_row(draft, row)?;
     }
     Ok(())
 }
 
 /// Takes out the rows with this key of the second relation.
-pub fn take_second(alloc: Global, draft: &mut Draft, key: u64) -> Result<(), Stop>
+fn take_second(draft: &mut Draft, key: &Tuple) -> Result<(), Stop>
     ensures { IsLater draft.old draft.new }
 {
     draft.index_by(&SECOND)?;
-    let key = Tuple::from_slice(alloc, &[key])?;
-    let rows = draft.rows().rows_with(&SECOND, &key)?;
-    take_rows(alloc, draft, rows.as_slice())
+    let rows = draft.rows().rows_with(&SECOND, key)?;
+    take_rows(draft, rows.as_slice())
 }
 
-/// Gives the row with this key another code.
-pub fn replace(alloc: Global, draft: &mut Draft, key: u64, code: u64) -> Result<(), Stop>
+/// Puts the row in the place of the one with its key.
+fn replace(draft: &mut Draft, row: &Tuple) -> Result<(), Stop>
     ensures { IsLater draft.old draft.new }
 {
-    take(alloc, draft, key, key)?;
-    put_new(alloc, draft, key, code)
+    take_row(draft, row)?;
+    put_new(draft, row)
+}
+
+/// Makes the changes of a transaction.
+pub fn change_rows(draft: &mut Draft, input: &Input) -> Result<(), Stop>
+    ensures { IsLater draft.old draft.new }
+{
+    take_second(draft, &input.gone)?;
+    put_new(draft, &input.new)?;
+    replace(draft, &input.other)
 }
 
 /// Whether no number of the rows that come is above the greatest.

@@ -1,15 +1,15 @@
 //! Transactions on a store of one view of two relations.
 //!
 //! The rows' keys are all the numbers below the number of slots but one. Each transaction takes out a row by its key in
-//! the second relation, puts in the one that the transaction before took out, and gives a third row another code. The
-//! parts of a transaction aren't inlined, so that a profile tells them apart.
+//! the second relation, puts in the one that the transaction before took out, and gives a third row another code. The key
+//! and the rows that it is given are made before it and let go after it. The parts of a transaction aren't inlined, so that
+//! a profile tells them apart.
 ghost use Rattle.std.specs.Prelude.{◌≡◌, ◌<◌, length, IfOk};
 ghost use Rattle.whips_changes.specs.Changes.{net_changes};
 ghost use Rattle.whips_store.specs.Calls.{AreNet};
 ghost use Rattle.whips_store.specs.Stores.{view_in};
-ghost use Rattle.whips_store_bench.specs.Later.{IsLater};
 
-use crate::rows::{are_changes_within, put_new, replace, take_second};
+use crate::rows::{Input, are_changes_within, change_rows, make_input};
 use crate::start::one;
 use crate::stop::Stop;
 use std::alloc::Global;
@@ -44,31 +44,27 @@ fn key_missing(t: u32, slots: u64) -> u64
     key_taken(t - 1, slots)
 }
 
-/// Makes the changes of transaction `t`.
-fn change_rows(alloc: Global, draft: &mut Draft, t: u32) -> Result<(), Stop>
-    ensures { IsLater draft.old draft.new }
-{
-    let rows = draft.rows().len() as u64;
+/// What transaction `t` changes in so many rows.
+fn input_of(alloc: Global, rows: u64, t: u32) -> Result<Input, Stop> {
     if rows >= MOST {
         return Err(Stop::Refused);
     }
     let slots = rows + 1;
-    let taken = key_taken(t, slots);
+    let gone = key_taken(t, slots);
+    let other = (gone + slots / 3) % slots;
     let code = u64::from(t) + 1;
-    take_second(alloc, draft, taken)?;
-    put_new(alloc, draft, key_missing(t, slots), code)?;
-    replace(alloc, draft, (taken + slots / 3) % slots, code)
+    Ok(make_input(alloc, gone, key_missing(t, slots), other, code)?)
 }
 
-/// The rows after transaction `t`, and the net changes that lead to them.
+/// The rows after these changes, and the net changes that lead to them.
 #[inline(never)]
-fn rows_after(alloc: Global, before: &Rows, t: u32) -> Result<(Rows, Vec<Change>), Stop>
+fn rows_after(alloc: Global, before: &Rows, input: &Input) -> Result<(Rows, Vec<Change>), Stop>
     ensures columns { IfOk result (λ p. p.0.columns ≡ before.now.columns) }
     ensures net { IfOk result (λ p. p.1.items
         ≡ net_changes before.now.columns.key before.now.rows p.0.rows) }
 {
     let mut draft = Draft::of(alloc, before)?;
-    change_rows(alloc, &mut draft, t)?;
+    change_rows(&mut draft, input)?;
     Ok(draft.finish(alloc)?)
 }
 
@@ -142,7 +138,8 @@ fn make_one<S: Store>(alloc: Global, store: &mut S, t: u32) -> Result<u64, Stop>
     if store.views() != 1 {
         return Err(Stop::Refused);
     }
-    let (after, changes) = rows_after(alloc, store.current(0), t)?;
+    let input = input_of(alloc, store.current(0).len() as u64, t)?;
+    let (after, changes) = rows_after(alloc, store.current(0), &input)?;
     let changes = changes_to(alloc, store, after, changes)?;
     make(store, changes)
 }
