@@ -1,0 +1,11 @@
+//! Tests alone: input and output, views and scripts that are read or refused, and whole runs on texts in memory.
+#![tactic(auto)]
+
+#[cfg(test)]
+mod io;
+#[cfg(test)]
+mod run;
+#[cfg(test)]
+mod script;
+#[cfg(test)]
+mod view_forms;

@@ -1,0 +1,166 @@
+//! Whole runs on texts in memory.
+use std::alloc::{AllocError, Global};
+use whips_fixtures::texts;
+use whips_io::{MemSink, MemSource};
+use whips_rel::NoMemory;
+use whips_run::run;
+
+/// A relation with one row and a view of it.
+const ONE_ROW: &[u8] =
+    br#"{"sources":[{"name":"A","relations":[{"name":"R","columns":[["a","number"],["b","number"]],"key":["a"],"rows":[[1,5]]}]}],"views":[{"name":"W","relations":["R"],"out":["R.a","R.b"]}]}"#;
+
+/// Two sources with a join, slots and a session, which isn't read yet.
+const WITH_SESSION: &[u8] =
+    br#"{"sources":[{"name":"A","relations":[{"name":"R","columns":[["a","number"],["b","number"]],"key":["a"],"rows":[]}],"updates":[]},{"name":"B","relations":[{"name":"S","columns":[["c","number"],["b","number"]],"key":["c"],"rows":[]}],"updates":[]}],"views":[{"name":"V","relations":["R","S"],"equal":[["R.b","S.b"]],"out":["R.a","S.c","R.b"],"slots":4}],"sessions":["s"]}"#;
+
+/// A source of the text in pieces of up to 100 bytes, whose call of this number fails.
+fn input(alloc: Global, text: &[u8], failing: u64) -> Result<MemSource, NoMemory> {
+    let fails = Vec::from_slice(alloc, &[failing])?;
+    Ok(MemSource::new(Vec::from_slice(alloc, text)?, 100, fails))
+}
+
+/// A sink in pieces of up to 10 bytes, whose call of this number fails.
+fn output(alloc: Global, failing: u64) -> Result<MemSink, NoMemory> {
+    let fails = Vec::from_slice(alloc, &[failing])?;
+    match MemSink::new(alloc, 10, fails) {
+        Ok(sink) => Ok(sink),
+        Err(_) => Err(NoMemory),
+    }
+}
+
+/// What fails: the read and the write of these numbers, from 1.
+#[derive(Clone, Copy)]
+struct Failing {
+    read: u64,
+    write: u64,
+}
+
+const NOTHING: Failing = Failing { read: 0, write: 0 };
+
+/// The status in which the word ends on the text, and the sink with what was written.
+fn run_on(
+    alloc: Global,
+    word: &str,
+    text: &[u8],
+    failing: Failing,
+) -> Result<(u8, MemSink), NoMemory> {
+    let words = texts(alloc, &[word])?;
+    let mut input = input(alloc, text, failing.read)?;
+    let mut output = output(alloc, failing.write)?;
+    let ended = run(alloc, &words, &mut input, &mut output);
+    Ok((ended.status, output))
+}
+
+/// Whether the word ends in this status on the text, and has written this.
+fn ends_as(
+    alloc: Global,
+    word: &str,
+    text: &[u8],
+    failing: Failing,
+    wanted: (u8, &[u8]),
+) -> Result<bool, NoMemory> {
+    let (status, output) = run_on(alloc, word, text, failing)?;
+    Ok((status == wanted.0) & (output.written() == wanted.1))
+}
+
+/// A relation of three rows in the end, and a view of it.
+const EDITED: &[u8] =
+    br#"{"sources":[{"name":"A","relations":[{"name":"R","columns":[["a","number"],["b","number"]],"key":["a"],"rows":[[2,6],[1,5]]}],"updates":[["delete","R",[1]],["insert","R",[3,7]],["insert","R",[1,8]]]}],"views":[{"name":"W","relations":["R"],"out":["R.b","R.a"]}]}"#;
+
+/// Two sources with a join and slots.
+const JOINED: &[u8] =
+    br#"{"sources":[{"name":"A","relations":[{"name":"R","columns":[["a","number"],["b","number"]],"key":["a"],"rows":[]}],"updates":[["insert","R",[1,5]]]},{"name":"B","relations":[{"name":"S","columns":[["c","number"],["b","number"]],"key":["c"],"rows":[]}],"updates":[["insert","S",[7,5]]]}],"views":[{"name":"V","relations":["R","S"],"equal":[["R.b","S.b"]],"out":["R.a","S.c","R.b"],"slots":4}],"sessions":[]}"#;
+
+#[test]
+fn final_states_are_written(rt: HostRuntime) {
+    let cases: [(&[u8], &[u8]); 2] = [
+        (
+            EDITED,
+            b"final A=3\nview W rows 3\nrow [8,1]\nrow [6,2]\nrow [7,3]\n",
+        ),
+        (JOINED, b"final A=1 B=1\nview V rows 1\nrow [1,7,5]\n"),
+    ];
+    for (text, wanted) in cases {
+        let ended = ends_as(rt.alloc(), "run", text, NOTHING, (0, wanted));
+        assert!(rt; matches!(ended, Ok(true)), "at {text:?}");
+    }
+}
+
+/// Whether a run on more bytes than are read ends as such.
+fn is_too_long(alloc: Global) -> Result<bool, NoMemory> {
+    let blanks = vec![in alloc; b' '; 16_777_217]?;
+    ends_as(alloc, "run", &blanks, NOTHING, (8, b"too long\n"))
+}
+
+#[test]
+fn the_outside_fails(rt: HostRuntime) {
+    let no_read = Failing { read: 2, write: 0 };
+    let no_write = Failing { read: 0, write: 2 };
+    let usage = b"usage: whips run, check or make START SIZE\n";
+    let cases: [(&str, &[u8], Failing, (u8, &[u8])); 3] = [
+        ("run", ONE_ROW, no_read, (4, b"read fault\n")),
+        ("run", ONE_ROW, no_write, (5, b"final A=0\n")),
+        ("runs", ONE_ROW, NOTHING, (2, usage)),
+    ];
+    for (word, text, failing, wanted) in cases {
+        let ended = ends_as(rt.alloc(), word, text, failing, wanted);
+        assert!(rt; matches!(ended, Ok(true)), "status {}", wanted.0);
+    }
+    assert!(rt; matches!(is_too_long(rt.alloc()), Ok(true)));
+}
+
+#[test]
+fn bad_input_is_refused(rt: HostRuntime) {
+    let syntax = b"refused Syntax document\n".as_slice();
+    let unbuilt = b"refused Unbuilt document\n".as_slice();
+    let cases: [(&[u8], &[u8]); 6] = [
+        (b"", syntax),
+        (br#"{"sources":[{"name":"A"#, syntax),
+        (b"\"\xff\"", syntax),
+        (b"{}", unbuilt),
+        (br#"{"sources":[],"views":[]}"#, unbuilt),
+        (WITH_SESSION, unbuilt),
+    ];
+    for (text, wanted) in cases {
+        let ended = ends_as(rt.alloc(), "run", text, NOTHING, (3, wanted));
+        assert!(rt; matches!(ended, Ok(true)), "at {text:?}");
+    }
+}
+
+/// The script of one row with other rows and updates.
+fn script_of(alloc: Global, rows: &str, updates: &str) -> Result<String, AllocError> {
+    format!(in alloc;
+        "{{\"sources\":[{{\"name\":\"A\",\"relations\":[{{\"name\":\"R\",\"columns\":[[\"a\",\"number\"],[\"b\",\"number\"]],\"key\":[\"a\"],\"rows\":{rows}}}],\"updates\":{updates}}}],\"views\":[{{\"name\":\"W\",\"relations\":[\"R\"],\"out\":[\"R.a\",\"R.b\"]}}]}}"
+    )
+}
+
+/// The status in which a run on the script of one row with these rows and updates ends.
+fn status_of(alloc: Global, rows: &str, updates: &str) -> Result<u8, NoMemory> {
+    let text = script_of(alloc, rows, updates)?;
+    let (status, _output) = run_on(alloc, "run", text.as_bytes(), NOTHING)?;
+    Ok(status)
+}
+
+#[test]
+fn wrong_rows_and_updates_are_refused(rt: HostRuntime) {
+    let cases = [
+        ("[[1,5]]", "[]", 0),
+        ("[[1,999999999999]]", "[]", 0),
+        ("[[1,1000000000000]]", "[]", 3),
+        ("[[1,5.0]]", "[]", 3),
+        ("[[1,-5]]", "[]", 3),
+        ("[[1,5,6]]", "[]", 3),
+        ("[[1,5],[1,6]]", "[]", 3),
+        ("[[1,5]]", "[[\"insert\",\"R\",[1,6]]]", 3),
+        ("[[1,5]]", "[[\"delete\",\"R\",[2]]]", 3),
+        (
+            "[[1,5]]",
+            "[[\"delete\",\"R\",[1]],[\"insert\",\"R\",[1,6]]]",
+            0,
+        ),
+    ];
+    for (rows, updates, wanted) in cases {
+        let status = status_of(rt.alloc(), rows, updates);
+        assert!(rt; status == Ok(wanted), "rows {rows}, updates {updates}");
+    }
+}
