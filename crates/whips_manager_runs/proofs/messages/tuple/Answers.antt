@@ -1,4 +1,0 @@
-use Rattle.whips_manager_runs.proofs.messages.tuple.Goals as goal
-
-pub returns : goal.returns
-returns c = c.from_slice.ensures
