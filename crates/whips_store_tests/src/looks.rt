@@ -16,9 +16,11 @@ fn look_up<L: Look>(look: &mut L, x: u32, i: u32, v: u64, into: &mut RowBuf) -> 
     requires columns { into.old.columns ≡ L.columns (L.base look.old) x }
     requires room { length into.old.rows < into.old.room }
     ensures base { L.base look.new ≡ L.base look.old }
-    ensures phase { (at : ℕ) × L.phase_says (L.base look.old) (L.log look.new) (length (L.log look.old)) result.0 at }
+    ensures phase { (at : ℕ)
+        × L.phase_says (L.base look.old) (L.log look.new) (length (L.log look.old)) result.0 at }
     ensures row { (at next : ℕ) × (seen : Seen) × (result.1 ≡ shown_of seen)
-        × (into.new ≡ with_seen seen into.old) × L.row_says (L.base look.old) (L.log look.new) at x i v seen next }
+        × (into.new ≡ with_seen seen into.old)
+        × L.row_says (L.base look.old) (L.log look.new) at x i v seen next }
 {
     let phase = look.phase();
     let shown = look.row(x, i, v, into);
