@@ -153,21 +153,21 @@ managed_writer : (f : Facts) (x : ℕ) (ts : List QueryStep) (p : Pipeline) → 
 managed_writer f x [] p = refl
 managed_writer f x (t ∷ ts) p = managed_writer f x ts (with_step_asked f x p t)
 
-message_writer : (f : Facts) (x : ℕ) (o : Option ManagerMessage) (p : Pipeline) → (after_message f x o p).writer ≡ p.writer
+pub message_writer : (f : Facts) (x : ℕ) (o : Option ManagerMessage) (p : Pipeline) → (after_message f x o p).writer ≡ p.writer
 message_writer f x None p = refl
 message_writer f x (Some (update n)) p = managed_writer f x (first_steps f x n) (with_manager x (with_transaction f x n) p)
 message_writer f x (Some (reply t)) p = elim (ltb t.step (length (f.asked_sources x t.origin))) as (λ b. (cond b (with_step_asked f x (with_manager x (with_next_step t) p) (next_step t)) (with_manager x (without_query t) p)).writer ≡ p.writer) [ true ↦ refl | false ↦ refl ]
 
-integrated_writer : (f : Facts) (y : ℕ) (o : Option SourceMessage) (p : Pipeline) → (after_integrate f y o p).writer ≡ p.writer
+pub integrated_writer : (f : Facts) (y : ℕ) (o : Option SourceMessage) (p : Pipeline) → (after_integrate f y o p).writer ≡ p.writer
 integrated_writer f y None p = refl
 integrated_writer f y (Some (sent_transaction k)) p = refl
 integrated_writer f y (Some (sent_answer x t)) p = refl
 
-rel_writer : (o : Option Row) (p : Pipeline) → (after_rel o p).writer ≡ p.writer
+pub rel_writer : (o : Option Row) (p : Pipeline) → (after_rel o p).writer ≡ p.writer
 rel_writer None p = refl
 rel_writer (Some r) p = refl
 
-act_writer : (x : ℕ) (o : Option ℕ) (p : Pipeline) → (after_act x o p).writer ≡ p.writer
+pub act_writer : (x : ℕ) (o : Option ℕ) (p : Pipeline) → (after_act x o p).writer ≡ p.writer
 act_writer x None p = refl
 act_writer x (Some j) p = refl
 

@@ -1,7 +1,14 @@
 -- Every run of a valid script meets the headline.
+--
+-- `every_run` is the theorem; `lines_are_records` and `printed_versions` say what a report's lines have to do with its run.
+--
+-- The idea: what every event keeps of the lines that were told (`Told`) holds at the end of a run, by induction over its events and its drain. The fields that speak of lines are read off it. The others follow from the cuts of a run that ended well, and from the values of the views where nothing is left on its way.
+--
+-- Four lemmas carry it: `reads` (the rows of a read), `headline_from` (all fields but the end), `ends_at` (the end where no event is enabled) and `met` (a run with its drain).
 use Rattle.std.proofs.Common.{◌≡◌, ℕ, zero, suc, ◌≤◌, Bool, true, false, List, [], ◌∷◌, ◌++◌, length, Some, None, cond, refl, sym, ap, subst, ◌∙◌, arith, ◌⊎◌, inl, inr}
 use Rattle.std.specs.Prelude.{map, slice_get, slice_index, slice_index_or}
 use Rattle.std.specs.List.{AllByRecursion}
+use Rattle.std.specs.List.Sorted.{IsNonDecreasing}
 use Rattle.std.specs.Option.{option_and_then, unwrap_or}
 use Rattle.std.proofs.lemmas.List.{length-map, map-append}
 use Rattle.std.proofs.lemmas.Grind.{flat_map-append}
@@ -11,7 +18,7 @@ use Rattle.whips_flow.specs.State.{Pipeline, version_cuts}
 use Rattle.whips_flow.specs.Progress.{after, first_enabled}
 use Rattle.whips_flow.specs.Work.{work}
 use Rattle.whips_flow.specs.declared.event.Event.{Event}
-use Rattle.whips_runs.specs.Records.{RunRecord, read, final, final_rows}
+use Rattle.whips_runs.specs.Records.{RunRecord, version, skip, opened, more, read, expired, full, final, final_rows}
 use Rattle.whips_runs.specs.World.{World, start_world, drained_world, finished_world, after_listed_plan}
 use Rattle.whips_runs.specs.Picks.{after_picked_plan}
 use Rattle.whips_facts.specs.Scripts.{Script, SlottedView, value_at, view_at, no_view, slotted_views}
@@ -19,16 +26,17 @@ use Rattle.whips_facts.specs.ScriptFacts.{facts_of}
 use Rattle.whips_facts.specs.Values.{IsValidScript}
 use Rattle.whips_reports.specs.Reported.{Reported, rows_of, reported, listed, picked, run_of}
 use Rattle.whips_cut_laws.specs.Cuts.{AllAdvance, committed_at}
+use Rattle.whips_lists.proofs.Options.{some_same}
 use Rattle.whips_lists.proofs.ByPlace.{get_there}
 use Rattle.whips_run_laws.specs.Reached.{IsReached}
 use Rattle.whips_run_laws.proofs.Reaches.{start_reached, listed_plan_reached, picked_plan_reached, drained_reached}
 use Rattle.whips_facts_laws.specs.ScriptRuns.{IsAtRest, EndsWell}
 use Rattle.whips_facts_laws.proofs.Ends.{finished_well}
 use Rattle.whips_value_laws.proofs.Whole.{has_all}
-use Rattle.whips_headline_laws.specs.Headline.{cut_on, printed_cuts, records_of, ReadsItsCut, whole_cut, IsPrefix, EndsFull, final_line, EndsAtFinalSources, Headline}
+use Rattle.whips_headline_laws.specs.Headline.{cut_on, printed_cuts, printed_phases, records_of, ReadsItsCut, CountsRows, LeavesSlots, whole_cut, IsPrefix, EndsFull, final_line, EndsAtFinalSources, Headline}
 use Rattle.whips_headline_laws.specs.HeadlineLaws.{EveryRunMeetsHeadline, LinesAreRecords, PrintedCutsAreVersions}
 use Rattle.whips_headline_laws.proofs.Counts.{all_long, committed_within}
-use Rattle.whips_headline_laws.proofs.Told.{from_split, IsLine, Told, event_told, skip_told, final_told, start_told}
+use Rattle.whips_headline_laws.proofs.Told.{from_split, each_is, MatchesFacts, IsLine, Told, event_told, skip_told, final_told, start_told}
 use Rattle.whips_headline_laws.proofs.Along.{drained_keeps, picked_keeps, listed_keeps}
 
 -- ---- lists
@@ -43,18 +51,23 @@ all_both : {A : Type 0} (P Q R : A → Type 0) (xs : List A) → ((x : A) → P 
 all_both P Q R [] g h k = tt
 all_both P Q R (x ∷ xs) g h k = (g x h.0 k.0, all_both P Q R xs g h.1 k.1)
 
+index_map : {A : Type 0} (g : A → ℕ) (xs : List A) (i : ℕ) (x : A) → slice_get xs i ≡ Some x → slice_index (map g xs) i ≡ g x
+index_map g [] i x e = absurd (cc)
+index_map g (z ∷ xs) zero x e = ap g (some_same z x e)
+index_map g (z ∷ xs) (suc i) x e = index_map g xs i x e
+
 all_from_get : {A : Type 0} (P : A → Type 0) (xs : List A) → ((i : ℕ) (x : A) → slice_get xs i ≡ Some x → P x) → AllByRecursion P xs
 all_from_get P [] g = tt
 all_from_get P (x ∷ xs) g = (g 0 x refl, all_from_get P xs (λ i y e. g (suc i) y e))
 
 -- ---- records and their lines
 
-pub records_append : (lines more : List Reported) → records_of (lines ++ more) ≡ records_of lines ++ records_of more
-records_append lines more = map-append (λ line. line.entry) lines more
+pub records_append : (lines others : List Reported) → records_of (lines ++ others) ≡ records_of lines ++ records_of others
+records_append lines others = map-append (λ line. line.entry) lines others
 
 -- more records print more cuts behind the first
-pub printed_append : (records more : List RunRecord) → printed_cuts (records ++ more) ≡ printed_cuts records ++ printed_cuts more
-printed_append records more = flat_map-append cut_on records more
+pub printed_append : (records others : List RunRecord) → printed_cuts (records ++ others) ≡ printed_cuts records ++ printed_cuts others
+printed_append records others = flat_map-append cut_on records others
 
 module _ (s : Script) (cuts : List (List ℕ)) where
   abbrev pub line_of : RunRecord → Reported
@@ -73,6 +86,32 @@ module _ (s : Script) (cuts : List (List ℕ)) where
   final_rows_lines : (xs : List ℕ) → map line_of (map final_rows xs) ≡ map (final_line s) xs
   final_rows_lines [] = refl
   final_rows_lines (x ∷ xs) = ap (λ z. final_line s x ∷ z) (final_rows_lines xs)
+
+-- ---- what a line says by the script alone
+
+counts_rows : (s : Script) (before : List RunRecord) (r : RunRecord) → MatchesFacts (facts_of s) before r → CountsRows s r
+counts_rows s before (version number cut row_counts) h = h
+counts_rows s before (skip k e) h = tt
+counts_rows s before (opened session v phase) h = tt
+counts_rows s before (more session x v phase slots) h = tt
+counts_rows s before (read session x v phase) h = tt
+counts_rows s before (expired session x v phase) h = tt
+counts_rows s before (full shortage) h = tt
+counts_rows s before (final counts) h = tt
+counts_rows s before (final_rows x) h = tt
+
+leaves_slots : (s : Script) (before : List RunRecord) (r : RunRecord) → MatchesFacts (facts_of s) before r → LeavesSlots s r
+leaves_slots s before (version number cut row_counts) h = tt
+leaves_slots s before (skip k e) h = tt
+leaves_slots s before (opened session v phase) h = tt
+leaves_slots s before (more session x v phase slots) h =
+    let view = get_there x (slotted_views s) (omega (arith, h.2, length-map (slotted_views s) (λ (z : SlottedView). z.slots))) in
+    (view.0, view.1, h.0, omega (arith, h.1, index_map (λ (z : SlottedView). z.slots) (slotted_views s) x view.0 view.1))
+leaves_slots s before (read session x v phase) h = tt
+leaves_slots s before (expired session x v phase) h = tt
+leaves_slots s before (full shortage) h = tt
+leaves_slots s before (final counts) h = tt
+leaves_slots s before (final_rows x) h = tt
 
 -- ---- a run that ended well
 
@@ -103,6 +142,9 @@ module _ (s : Script) (w : World) (h : Told (facts_of s) w) where
         rows_there s (version_cuts w.pipeline) w.records before after line e ∙ (ap (rows_of s (version_cuts w.pipeline)) is ∙ value),
       )
 
+  all_lines : (Q : RunRecord → Type 0) → ((before : List RunRecord) (r : RunRecord) → IsLine (facts_of s) before r → Q r) → AllByRecursion Q (records_of (reported s w))
+  all_lines Q g = subst (AllByRecursion Q) (sym back) (each_is (IsLine (facts_of s)) Q g [] w.records h.lines)
+
   prefixes : EndsWell s w → AllByRecursion (IsPrefix s) (printed_cuts (records_of (reported s w)))
   prefixes well = subst (AllByRecursion (IsPrefix s)) (sym printed) (all_both
       (λ cut. length cut ≡ length (facts_of s).transactions)
@@ -120,6 +162,9 @@ module _ (s : Script) (w : World) (h : Told (facts_of s) w) where
     prefixes = prefixes well;
     later = subst AllAdvance (sym printed) well.cuts.advance;
     expires = λ before after r e. (line_is before after r e).1;
+    row_counts = all_lines (CountsRows s) (λ before r here. counts_rows s before r here.2);
+    phases = subst (λ z. IsNonDecreasing (printed_phases z)) (sym back) h.phases.rising;
+    slots = all_lines (LeavesSlots s) (λ before r here. leaves_slots s before r here.2);
     end = end_is end;
   }
     where
@@ -163,7 +208,7 @@ module _ (s : Script) (valid : IsValidScript s) where
   met_at_end w h r false t well = headline_from s (closed s w) (final_told (facts_of s) (whole_cut s) (view_places (facts_of s)) w t h) well (inr (at_rest well.end))
     where
       at_rest : (w.is_full ≡ true) ⊎ IsAtRest (facts_of s) w.pipeline → EndsAtFinalSources s (reported s (closed s w))
-      at_rest (inl full) = absurd (cc)
+      at_rest (inl short) = absurd (cc)
       at_rest (inr rest) = ends_at w h r rest.none_enabled
 
   pub met : (w : World) → Told (facts_of s) w → IsReached (facts_of s) w.pipeline → Headline s (reported s (finished_world (facts_of s) w))

@@ -1,4 +1,4 @@
--- What a run has told beside its state: its printed cuts are those of its versions, each session is at the version of its last opening, and each line is right by those before it. Every event keeps this.
+-- What a run has told beside its state: its printed cuts are those of its versions, its phases never fall, each session is at the version of its last opening, and each line is right by those before it. Every event keeps this.
 --
 -- `event_told`: every event that is allowed keeps this (`Told`); `start_told`, `skip_told` and `final_told` are the start, a turn whose event isn't allowed, and the records at the end.
 --
@@ -6,7 +6,8 @@
 --
 -- Four lemmas carry it: `from_push` (one line more), `quiet_told` (a record that prints no cut and opens no session), `publish_told` and `open_told`.
 use Rattle.std.proofs.Common.{◌≡◌, ℕ, zero, suc, ◌/◌, ◌<◌, true, false, ◌&&◌, not, List, [], ◌∷◌, ◌++◌, length, eqb, ltb, Option, Some, None, cond, refl, sym, ap, subst, ◌∙◌, arith, ⊎_elim, append_assoc}
-use Rattle.std.specs.Prelude.{slice_get, replicate, map}
+use Rattle.std.specs.Prelude.{is_some, slice_get, slice_index, replicate, map}
+use Rattle.std.specs.List.{AllByRecursion}
 use Rattle.std.proofs.lemmas.Bool.{and_parts, eqb-true, eq-eqb, ltb-true, false_from_ne_true}
 use Rattle.std.proofs.lemmas.List.{append-nil, length-append, length_push, flat_map_more}
 use Rattle.std.proofs.lemmas.List.Sums.{fold-append}
@@ -16,14 +17,15 @@ use Rattle.whips_flow.specs.State.{start, version_cuts}
 use Rattle.whips_flow.specs.Progress.{is_enabled, next, shortage_at}
 use Rattle.whips_flow.specs.declared.event.Event.{Event}
 use Rattle.whips_flow.specs.declared.event.Event.TheVariants.{Commit, Answer, Integrate, Manage, Rel, Act, Begin, Change, Publish, SessionOpen, SessionScan, SessionFetch, SessionClose}
-use Rattle.whips_runs.specs.Sessions.{Scan, Session, not_open, open_at, scanning, is_open, scan_of, with_new_scan, visited_scan, has_slots_left, session_after_visit}
+use Rattle.whips_runs.specs.Sessions.{Scan, Session, not_open, open_at, scanning, is_open, scan_of, with_new_scan, slots_of, visited_scan, has_slots_left, session_after_visit}
 use Rattle.whips_flow.specs.Staleness.{is_stale}
-use Rattle.whips_runs.specs.Records.{RunRecord, skip, opened, more, read, expired, full, final, final_rows, fetch_record, version_record}
+use Rattle.whips_runs.specs.Records.{RunRecord, version, skip, opened, more, read, expired, full, final, final_rows, fetch_record, version_record}
 use Rattle.whips_runs.specs.World.{World, is_allowed, with_record, with_session, phase_of, after_open, after_scan, after_fetch, after_publish_event, after_event, start_world}
 use Rattle.whips_lists.proofs.Options.{some_same}
 use Rattle.whips_lists.proofs.ByPlace.{get_cases}
-use Rattle.whips_headline_laws.specs.Headline.{cut_on, printed_cuts, version_after, version_of, IsNow, IsNumbered, ExpiresByRule, EndsFull}
+use Rattle.whips_headline_laws.specs.Headline.{cut_on, printed_cuts, phase_on, printed_phases, version_after, version_of, IsNow, IsNumbered, ExpiresByRule, EndsFull}
 use Rattle.whips_headline_laws.proofs.Counts.{Counted, next_counted, start_counted, same_versions}
+use Rattle.whips_headline_laws.proofs.Phases.{ArePhases, later_phase, phases_push, phases_later}
 
 -- ---- each element with those before it, by recursion
 
@@ -45,6 +47,11 @@ module _ {A : Type 0} (P : List A → A → Type 0) where
       let rest : xs ≡ before ++ x ∷ after = cc in
       subst (λ z. P z x) (append_assoc seen (b ∷ []) before) (from_split (seen ++ b ∷ []) xs before after x (subst (λ z. EachFrom P (seen ++ z ∷ []) xs) q h.1) rest)
 
+-- what follows from it for each element
+pub each_is : {A : Type 0} (P : List A → A → Type 0) (Q : A → Type 0) → ((seen : List A) (x : A) → P seen x → Q x) → (seen xs : List A) → EachFrom P seen xs → AllByRecursion Q xs
+each_is P Q g seen [] h = tt
+each_is P Q g seen (x ∷ xs) h = (g seen x h.0, each_is P Q g (seen ++ x ∷ []) xs h.1)
+
 -- ---- one more record
 
 pub printed_push : (records : List RunRecord) (r : RunRecord) → printed_cuts (records ++ r ∷ []) ≡ printed_cuts records ++ cut_on r
@@ -53,9 +60,10 @@ printed_push records r = sym (flat_map_more cut_on [] records r)
 pub version_push : (i : ℕ) (records : List RunRecord) (r : RunRecord) → version_of i (records ++ r ∷ []) ≡ version_after i (version_of i records) r
 version_push i records r = fold-append (version_after i) None records (r ∷ [])
 
--- the record prints no cut and opens no session
-pub record IsQuiet (r : RunRecord) : Type 0 where
+-- the record prints no cut and no phase but this, and opens no session
+pub record IsQuiet (now : ℕ) (r : RunRecord) : Type 0 where
   pub cuts : cut_on r ≡ []
+  pub phases : AllByRecursion (λ phase. phase ≡ now) (phase_on r)
   pub versions : (i : ℕ) (o : Option ℕ) → version_after i o r ≡ o
 
 -- ---- what is kept
@@ -69,17 +77,20 @@ IsTold f records i not_open = Unit {0}
 IsTold f records i (open_at v) = IsAt i records v
 IsTold f records i (scanning scan) = IsAt i records scan.version × (scan.view < length f.slots)
 
--- a read is of a version that was printed and of a view that is there
-abbrev pub IsReadable : Facts → List RunRecord → RunRecord → Type 0
-IsReadable f before (read session x v phase) = (v < length (printed_cuts before)) × (x < length f.slots)
-IsReadable f before _ = Unit {0}
+-- a version counts its rows, a fetch that leaves slots has visited some, and a read is of a version that was printed and of a view that is there
+abbrev pub MatchesFacts : Facts → List RunRecord → RunRecord → Type 0
+MatchesFacts f before (version number cut row_counts) = row_counts ≡ f.row_counts cut
+MatchesFacts f before (more session x v phase slots) = (0 < slots) × (slots < slice_index f.slots x) × (x < length f.slots)
+MatchesFacts f before (read session x v phase) = (v < length (printed_cuts before)) × (x < length f.slots)
+MatchesFacts f before _ = Unit {0}
 
 abbrev pub IsLine : Facts → List RunRecord → RunRecord → Type 0
-IsLine f before r = IsNumbered before r × ExpiresByRule f.versions before r × IsReadable f before r
+IsLine f before r = IsNumbered before r × ExpiresByRule f.versions before r × MatchesFacts f before r
 
 pub record Told (f : Facts) (w : World) : Type 0 where
   pub counted : Counted f w.pipeline
   pub printed : printed_cuts w.records ≡ version_cuts w.pipeline
+  pub phases : ArePhases (phase_of w) (printed_phases w.records)
   pub sessions : (i : ℕ) (t : Session) → slice_get w.sessions i ≡ Some t → IsTold f w.records i t
   pub lines : EachFrom (IsLine f) [] w.records
   pub end : w.is_full ≡ true → EndsFull w.records
@@ -98,16 +109,17 @@ module _ (f : Facts) (w : World) (h : Told f w) where
 
   -- ---- a record of neither kind
 
-  quiet_printed : (r : RunRecord) → IsQuiet r → printed_cuts (w.records ++ r ∷ []) ≡ version_cuts w.pipeline
+  quiet_printed : (r : RunRecord) → IsQuiet (phase_of w) r → printed_cuts (w.records ++ r ∷ []) ≡ version_cuts w.pipeline
   quiet_printed r q = printed_push w.records r ∙ (ap (λ z. printed_cuts w.records ++ z) q.cuts ∙ (append-nil (printed_cuts w.records) ∙ h.printed))
 
-  quiet_sessions : (r : RunRecord) → IsQuiet r → (i : ℕ) (t : Session) → slice_get w.sessions i ≡ Some t → IsTold f (w.records ++ r ∷ []) i t
+  quiet_sessions : (r : RunRecord) → IsQuiet (phase_of w) r → (i : ℕ) (t : Session) → slice_get w.sessions i ≡ Some t → IsTold f (w.records ++ r ∷ []) i t
   quiet_sessions r q i t at = told_push f i w.records r t (version_push i w.records r ∙ q.versions i (version_of i w.records)) (h.sessions i t at)
 
-  pub quiet_told : (r : RunRecord) → IsQuiet r → IsLine f w.records r → w.is_full ≡ false → Told f (with_record r w)
+  pub quiet_told : (r : RunRecord) → IsQuiet (phase_of w) r → IsLine f w.records r → w.is_full ≡ false → Told f (with_record r w)
   quiet_told r q l off = record {
     counted = h.counted;
     printed = quiet_printed r q;
+    phases = phases_push (phase_of w) w.records r q.phases h.phases;
     sessions = quiet_sessions r q;
     lines = from_push (IsLine f) [] w.records r h.lines l;
     end = λ t. absurd (cc);
@@ -115,9 +127,10 @@ module _ (f : Facts) (w : World) (h : Told f w) where
 
   -- the shortage that ends the run
   full_told : (v : Shortage) → Told f (record w { records = w.records ++ full v ∷ []; is_full = true })
-  full_told v = let q : IsQuiet (full v) = record { cuts = refl; versions = λ i o. refl } in record {
+  full_told v = let q : IsQuiet (phase_of w) (full v) = record { cuts = refl; phases = tt; versions = λ i o. refl } in record {
     counted = h.counted;
     printed = quiet_printed (full v) q;
+    phases = phases_push (phase_of w) w.records (full v) tt h.phases;
     sessions = quiet_sessions (full v) q;
     lines = from_push (IsLine f) [] w.records (full v) h.lines (tt, tt, tt);
     end = λ t. (w.records, v, refl);
@@ -129,6 +142,7 @@ module _ (f : Facts) (w : World) (h : Told f w) where
   session_told s g there = record {
     counted = h.counted;
     printed = h.printed;
+    phases = h.phases;
     sessions = λ i t at. ⊎_elim
         (λ c. subst (λ z. IsTold f w.records i z) c.1.2 (subst (λ z. IsTold f w.records z (g c.1.0)) (sym c.0) (there c.1.0 c.1.1)))
         (λ c. h.sessions i t c.1)
@@ -150,6 +164,7 @@ module _ (f : Facts) (w : World) (h : Told f w) where
       record {
         counted = h.counted;
         printed = printed_push w.records r ∙ (append-nil (printed_cuts w.records) ∙ h.printed);
+        phases = phases_push phase w.records r (refl, tt) h.phases;
         sessions = λ i t at. ⊎_elim
             (λ c. subst (λ z. IsTold f (w.records ++ r ∷ []) i z) c.1.2 (
               version_push i w.records r ∙ opened_here s i (phase / 2) (version_of i w.records) c.0,
@@ -169,7 +184,7 @@ module _ (f : Facts) (w : World) (h : Told f w) where
   scan_told : (s x : ℕ) → x < length f.slots → Told f (after_scan s x w)
   scan_told s x lt =
       let c = session_told s (with_new_scan x) (λ t at. scan_is_told s x t lt (h.sessions s t at)) in
-      record { counted = c.counted; printed = c.printed; sessions = c.sessions; lines = c.lines; end = c.end }
+      record { counted = c.counted; printed = c.printed; phases = c.phases; sessions = c.sessions; lines = c.lines; end = c.end }
 
   -- ---- a fetch
 
@@ -182,18 +197,22 @@ module _ (f : Facts) (w : World) (h : Told f w) where
   visit_told : (s : ℕ) (scan : Scan) → IsTold f w.records s (scanning scan) → IsTold f w.records s (session_after_visit f (phase_of w) scan)
   visit_told s scan u = elim (not (is_stale f.versions scan.version (phase_of w)) && has_slots_left f scan) as (λ b. IsTold f w.records s (cond b (scanning scan) (open_at scan.version))) [ true ↦ u | false ↦ u.0 ]
 
-  fetch_is_line : (s : ℕ) (scan : Scan) → IsTold f w.records s (scanning scan) → IsQuiet (fetch_record f (phase_of w) s scan) × IsLine f w.records (fetch_record f (phase_of w) s scan)
-  fetch_is_line s scan u =
+  fetch_is_line : (s : ℕ) (scan : Scan) → IsTold f w.records s (scanning scan) → (has_slots_left f scan ≡ true → 0 < scan.slot) → IsQuiet (phase_of w) (fetch_record f (phase_of w) s scan) × IsLine f w.records (fetch_record f (phase_of w) s scan)
+  fetch_is_line s scan u visits =
       let phase = phase_of w in
       let v = scan.version in
       let left = cond (has_slots_left f scan) (more s scan.view v phase scan.slot) (read s scan.view v phase) in
-      elim (is_stale f.versions v phase) as (λ b. is_stale f.versions v phase ≡ b → IsQuiet (cond b (expired s scan.view v phase) left) × IsLine f w.records (cond b (expired s scan.view v phase) left)) [
-        | true ↦ λ stale. (record { cuts = refl; versions = λ i o. refl }, (tt, (u.0.0, now, stale), tt))
-        | false ↦ λ fresh. elim (has_slots_left f scan) as (λ b. IsQuiet (cond b (more s scan.view v phase scan.slot) (read s scan.view v phase)) × IsLine f w.records (cond b (more s scan.view v phase scan.slot) (read s scan.view v phase))) [
-          | true ↦ (record { cuts = refl; versions = λ i o. refl }, (tt, (u.0.0, now, fresh), tt))
-          | false ↦ (record { cuts = refl; versions = λ i o. refl }, (tt, (u.0.0, now, fresh), (u.0.1, u.1)))
-        ]
+      elim (is_stale f.versions v phase) as (λ b. is_stale f.versions v phase ≡ b → IsQuiet phase (cond b (expired s scan.view v phase) left) × IsLine f w.records (cond b (expired s scan.view v phase) left)) [
+        | true ↦ λ stale. (record { cuts = refl; phases = (refl, tt); versions = λ i o. refl }, (tt, (u.0.0, now, stale), tt))
+        | false ↦ λ fresh. elim (has_slots_left f scan) as (λ b. has_slots_left f scan ≡ b → IsQuiet phase (cond b (more s scan.view v phase scan.slot) (read s scan.view v phase)) × IsLine f w.records (cond b (more s scan.view v phase scan.slot) (read s scan.view v phase))) [
+          | true ↦ λ some. (record { cuts = refl; phases = (refl, tt); versions = λ i o. refl }, (tt, (u.0.0, now, fresh), (visits some, ltb-true scan.slot (slots_of f scan) some, u.1)))
+          | false ↦ λ none. (record { cuts = refl; phases = (refl, tt); versions = λ i o. refl }, (tt, (u.0.0, now, fresh), (u.0.1, u.1)))
+        ] refl
       ] refl
+
+-- a fetch of a slot at least has visited one
+visits : (f : Facts) (n : ℕ) (scan : Scan) → 0 < n → has_slots_left f (visited_scan f n scan) ≡ true → 0 < (visited_scan f n scan).slot
+visits f n scan some left = omega (arith, some, ltb-true (visited_scan f n scan).slot (slots_of f scan) left)
 
 -- a published version
 publish_told : (f : Facts) (w : World) → is_enabled f w.pipeline Publish ≡ true → w.is_full ≡ false → Told f w → Told f (after_publish_event f w)
@@ -205,23 +224,24 @@ publish_told f w en off h =
     record {
       counted = counted;
       printed = printed_push w.records r ∙ ap (λ z. z ++ q.writer.cut ∷ []) h.printed;
+      phases = phases_push q.writer.phase w.records r tt (phases_later (phase_of w) q.writer.phase (later_phase f p Publish) (printed_phases w.records) h.phases);
       sessions = λ i t at. told_push f i w.records r t (version_push i w.records r) (h.sessions i t at);
-      lines = from_push (IsLine f) [] w.records r h.lines (omega (arith, counted.writer.versions, ap length h.printed), tt, tt);
+      lines = from_push (IsLine f) [] w.records r h.lines (omega (arith, counted.writer.versions, ap length h.printed), tt, refl);
       end = λ t. absurd (cc);
     }
 
-fetch_told : (f : Facts) (w : World) (s n : ℕ) (o : Option Scan) → scan_of (slice_get w.sessions s) ≡ o → w.is_full ≡ false → Told f w → Told f (after_fetch f s n o w)
-fetch_told f w s n None e off h = h
-fetch_told f w s n (Some scan) e off h =
+fetch_told : (f : Facts) (w : World) (s n : ℕ) → 0 < n → (o : Option Scan) → scan_of (slice_get w.sessions s) ≡ o → w.is_full ≡ false → Told f w → Told f (after_fetch f s n o w)
+fetch_told f w s n some None e off h = h
+fetch_told f w s n some (Some scan) e off h =
     let visited = visited_scan f n scan in
     let t = session_after_visit f (phase_of w) visited in
     let here : IsTold f w.records s (scanning visited) = h.sessions s (scanning scan) (scan_there f w h (slice_get w.sessions s) scan e) in
-    let line = fetch_is_line f w h s visited here in
+    let line = fetch_is_line f w h s visited here (visits f n scan some) in
     quiet_told f (with_session s t w) (session_told f w h s (λ _. t) (λ z at. visit_told f w h s visited here)) (fetch_record f (phase_of w) s visited) line.0 line.1 off
 
 -- another event of the pipeline
 moved_told : (f : Facts) (w : World) (e : Event) → (e ≡ Publish → ⊥) → is_enabled f w.pipeline e ≡ true → Told f w → Told f (record w { pipeline = next f w.pipeline e })
-moved_told f w e ne en h = record { counted = next_counted f w.pipeline e en h.counted; printed = h.printed ∙ sym (same_versions f w.pipeline e ne); sessions = h.sessions; lines = h.lines; end = h.end }
+moved_told f w e ne en h = record { counted = next_counted f w.pipeline e en h.counted; printed = h.printed ∙ sym (same_versions f w.pipeline e ne); phases = phases_later (phase_of w) (next f w.pipeline e).writer.phase (later_phase f w.pipeline e) (printed_phases w.records) h.phases; sessions = h.sessions; lines = h.lines; end = h.end }
 
 pub event_told : (f : Facts) (w : World) (e : Event) → w.is_full ≡ false → is_allowed f w e ≡ true → Told f w → Told f (after_event f e w)
 event_told f w (Commit y) off en h = moved_told f w (Commit y) (λ q. absurd (cc)) en h
@@ -241,23 +261,23 @@ event_told f w Change off en h = moved_told f w Change (λ q. absurd (cc)) en h
 event_told f w Publish off en h = publish_told f w en off h
 event_told f w (SessionOpen s) off en h = open_told f w h s off
 event_told f w (SessionScan s x) off en h = scan_told f w h s x (ltb-true x (length f.slots) (and_parts (is_open (slice_get w.sessions s)) (ltb x (length f.slots)) en).1)
-event_told f w (SessionFetch s n) off en h = fetch_told f w s n (scan_of (slice_get w.sessions s)) refl off h
+event_told f w (SessionFetch s n) off en h = fetch_told f w s n (ltb-true 0 n (and_parts (is_some (scan_of (slice_get w.sessions s))) (ltb 0 n) en).1) (scan_of (slice_get w.sessions s)) refl off h
 event_told f w (SessionClose s) off en h = session_told f w h s (λ _. not_open) (λ t at. tt)
 
 -- a turn whose event isn't allowed
 pub skip_told : (f : Facts) (w : World) (k : ℕ) (e : Event) → w.is_full ≡ false → Told f w → Told f (with_record (skip k e) w)
-skip_told f w k e off h = quiet_told f w h (skip k e) (record { cuts = refl; versions = λ i o. refl }) (tt, tt, tt) off
+skip_told f w k e off h = quiet_told f w h (skip k e) (record { cuts = refl; phases = tt; versions = λ i o. refl }) (tt, tt, tt) off
 
 -- the records at the end
 final_rows_told : (f : Facts) (xs : List ℕ) (w : World) → w.is_full ≡ false → Told f w → Told f (record w { records = w.records ++ map final_rows xs })
 final_rows_told f [] w off h = subst (λ z. Told f (record w { records = z })) (sym (append-nil w.records)) h
-final_rows_told f (x ∷ xs) w off h = subst (λ z. Told f (record w { records = z })) (append_assoc w.records (final_rows x ∷ []) (map final_rows xs)) (final_rows_told f xs (with_record (final_rows x) w) off (quiet_told f w h (final_rows x) (record { cuts = refl; versions = λ i o. refl }) (tt, tt, tt) off))
+final_rows_told f (x ∷ xs) w off h = subst (λ z. Told f (record w { records = z })) (append_assoc w.records (final_rows x ∷ []) (map final_rows xs)) (final_rows_told f xs (with_record (final_rows x) w) off (quiet_told f w h (final_rows x) (record { cuts = refl; phases = tt; versions = λ i o. refl }) (tt, tt, tt) off))
 
 pub final_told : (f : Facts) (counts xs : List ℕ) (w : World) → w.is_full ≡ false → Told f w → Told f (record w { records = w.records ++ final counts ∷ map final_rows xs })
-final_told f counts xs w off h = subst (λ z. Told f (record w { records = z })) (append_assoc w.records (final counts ∷ []) (map final_rows xs)) (final_rows_told f xs (with_record (final counts) w) off (quiet_told f w h (final counts) (record { cuts = refl; versions = λ i o. refl }) (tt, tt, tt) off))
+final_told f counts xs w off h = subst (λ z. Told f (record w { records = z })) (append_assoc w.records (final counts ∷ []) (map final_rows xs)) (final_rows_told f xs (with_record (final counts) w) off (quiet_told f w h (final counts) (record { cuts = refl; phases = tt; versions = λ i o. refl }) (tt, tt, tt) off))
 
 -- the start
-none_open : (n i : ℕ) (t : Session) → slice_get (replicate n not_open) i ≡ Some t → not_open ≡ t
+pub none_open : (n i : ℕ) (t : Session) → slice_get (replicate n not_open) i ≡ Some t → not_open ≡ t
 none_open zero i t e = absurd (cc)
 none_open (suc n) zero t e = some_same not_open t e
 none_open (suc n) (suc i) t e = none_open n i t e
@@ -266,7 +286,8 @@ pub start_told : (f : Facts) → Told f (start_world f)
 start_told f = record {
   counted = start_counted f;
   printed = refl;
+  phases = record { rising = λ i j d le lt. absurd (omega (arith, lt)); passed = tt };
   sessions = λ i t e. subst (IsTold f (version_record f (start f) ∷ []) i) (none_open f.sessions i t e) tt;
-  lines = ((refl, tt, tt), tt);
+  lines = ((refl, tt, refl), tt);
   end = λ t. absurd (cc);
 }

@@ -1,6 +1,7 @@
 -- The headline: what the report of every run says. A report is a list of lines, and each line is a record with its rows.
-use Rattle.std.specs.Prelude.{◌≡◌, ℕ, suc, ◌≤◌, ◌/◌, ◌⊎◌, ◌==◌, Bool, true, false, List, [], ◌∷◌, ◌++◌, length, map, fold, slice_get, slice_index, Option, Some, None, if◌then◌else◌}
+use Rattle.std.specs.Prelude.{◌≡◌, ℕ, suc, ◌<◌, ◌≤◌, ◌/◌, ◌⊎◌, ◌==◌, Bool, true, false, List, [], ◌∷◌, ◌++◌, length, map, fold, slice_get, slice_index, Option, Some, None, if◌then◌else◌}
 use Rattle.std.specs.List.{AllByRecursion, flat_map}
+use Rattle.std.specs.List.Sorted.{IsNonDecreasing}
 use Rattle.std.specs.Option.{option_and_then}
 use Rattle.whips_flow.specs.Facts.{Shortage}
 use Rattle.whips_lists.specs.Lists.{places_from}
@@ -38,6 +39,18 @@ cut_of session records = option_and_then (slice_get (printed_cuts records)) (ver
 abbrev pub IsNow : List RunRecord → (phase : ℕ) → Type 0
 IsNow records phase = suc (phase / 2) ≡ length (printed_cuts records)
 
+-- the phase that a session's record prints
+abbrev pub phase_on : RunRecord → List ℕ
+phase_on (opened session v phase) = phase ∷ []
+phase_on (more session x v phase slots) = phase ∷ []
+phase_on (read session x v phase) = phase ∷ []
+phase_on (expired session x v phase) = phase ∷ []
+phase_on _ = []
+
+-- the printed phases, in the order of their lines
+abbrev pub printed_phases : List RunRecord → List ℕ
+printed_phases records = flat_map phase_on records
+
 -- ---- what is true of a line
 
 -- of each element of a list and those before it
@@ -70,6 +83,19 @@ ExpiresByRule versions before (more session x v phase slots) = IsFetch versions 
 ExpiresByRule versions before (read session x v phase) = IsFetch versions before session v phase false
 ExpiresByRule versions before (expired session x v phase) = IsFetch versions before session v phase true
 ExpiresByRule versions before _ = Unit {0}
+
+-- a version counts the rows of each view's value on its cut
+abbrev pub CountsRows : Script → RunRecord → Type 0
+CountsRows s (version number cut row_counts) =
+    row_counts ≡ map (λ view. length (value_at s view.view cut)) (slotted_views s)
+CountsRows s _ = Unit {0}
+
+-- a fetch that leaves its scan open has visited a slot of the view at least, and not all of them. A scan begins without a line, so
+-- the lines tell no more; `MoreCountsSlots` tells how many, by the events
+abbrev pub LeavesSlots : Script → RunRecord → Type 0
+LeavesSlots s (more session x v phase slots) =
+    (view : SlottedView) × (slice_get (slotted_views s) x ≡ Some view) × (0 < slots) × (slots < view.slots)
+LeavesSlots s _ = Unit {0}
 
 -- ---- prefixes of the sources, and the end
 
@@ -114,5 +140,11 @@ pub record Headline (s : Script) (report : List Reported) : Type 0 where
   pub later : AllAdvance (printed_cuts (records_of report))
   -- a read answers Expired exactly when the rule makes its session stale;
   pub expires : EachAfter (ExpiresByRule s.setup.versions) (records_of report)
+  -- a version tells how many rows each view has on its cut;
+  pub row_counts : AllByRecursion (CountsRows s) (records_of report)
+  -- phases never fall from line to line;
+  pub phases : IsNonDecreasing (printed_phases (records_of report))
+  -- a fetch that leaves its scan open has visited some slots of the view and not all;
+  pub slots : AllByRecursion (LeavesSlots s) (records_of report)
   -- and once nothing is in flight, where every run ends that isn't full, the views are those of the final sources
   pub end : EndsFull (records_of report) ⊎ EndsAtFinalSources s report
