@@ -1,14 +1,11 @@
 -- A transaction begins, and a store at version 0.
-use Rattle.std.proofs.Common.{◌≡◌, ℕ, zero, suc, ◌+◌, ◌-◌, ◌<◌, ◌≤◌, cond, leb, true, false, List, [], ◌∷◌, ◌++◌, length, map, get_or, take, drop, Option, Some, None, refl, sym, ap, ap₂, subst, ◌∙◌, arith, inl, inr, Bool}
-use Rattle.std.specs.Prelude.{set, slice_get, replicate, ◌^◌}
+use Rattle.std.proofs.Common.{◌≡◌, ℕ, zero, suc, ◌+◌, ◌-◌, ◌<◌, ◌≤◌, cond, List, [], ◌∷◌, ◌++◌, length, map, get_or, take, drop, Some, None, refl, sym, ap, ap₂, subst, ◌∙◌, arith}
+use Rattle.std.specs.Prelude.{set, slice_get, ◌^◌}
 use Rattle.std.specs.List.{sum_by}
 use Rattle.std.proofs.lemmas.List.Sums.{sum_by-cons}
-use Rattle.std.proofs.lemmas.Bool.Decides.{leb_tells}
 use Rattle.whips_setup.specs.declared.error.SetupErr.TheVariants.{Slots, Limit}
 use Rattle.std.proofs.lemmas.List.{length-map, length-append, drop_all}
 use Rattle.whips_rel.specs.declared.update.Change.{Change}
-use Rattle.whips_model.specs.Tuples.{Codes}
-use Rattle.whips_vnl.specs.declared.record.Vstep.{Vstep}
 use Rattle.whips_store.specs.declared.error.StoreErr.TheVariants.{Full}
 use Rattle.std.proofs.Math.Seq.{drop-cons}
 use Rattle.std.proofs.lemmas.Bool.{lt-ltb, le-ltb}
@@ -16,11 +13,12 @@ use Rattle.whips_model.specs.Relation.{Table, value_of}
 use Rattle.whips_view.specs.ViewDefs.{View, row_columns}
 use Rattle.whips_setup.specs.Setups.{SetupData, columns_of}
 use Rattle.whips_setup.specs.Limits.{is_within_limits}
-use Rattle.whips_setup.specs.declared.error.SetupErr.{SetupErr}
 use Rattle.whips_setup.specs.Refusals.{slots_refusal, IsSetup}
 use Rattle.whips_store.specs.Stores.{ViewState, ChangeLists, no_view}
 use Rattle.whips_store.specs.Calls.{AreNet, AreNetChanges, slots_needed, first_full, views_with}
-use Rattle.whips_store.specs.First.{first_steps, first_records, first_view, view_at_first, views_at_first}
+use Rattle.whips_store.specs.First.{first_records, first_view, view_at_first, views_at_first}
+use Rattle.whips_faithful_laws.proofs.First.{first_slots, head_fits, no_refusal}
+use Rattle.whips_faithful_laws.proofs.Shapes.{begun_length}
 use Rattle.whips_plain.specs.Plain.{HasFewSlots, count}
 
 pub begun_left : (vs : List ViewState) (cs : ChangeLists) → AreNet vs cs → sum_by (λ (v : ViewState). length v.left) (views_with vs cs) ≡ count cs
@@ -29,11 +27,6 @@ begun_left [] (c ∷ cs) net = absurd net
 begun_left (v ∷ vs) [] net = absurd net
 begun_left (v ∷ vs) (c ∷ cs) net =
     sum_by-cons (λ (v : ViewState). length v.left) (record v { next = c.0.rows; left = c.1 }) (views_with vs cs) ∙ ap (λ k. length c.1 + k) (begun_left vs cs net.1) ∙ sym (sum_by-cons (λ c. length c.1) c cs)
-
-pub begun_many : (vs : List ViewState) (cs : ChangeLists) → length (views_with vs cs) ≡ length vs
-begun_many [] cs = refl
-begun_many (v ∷ vs) [] = refl
-begun_many (v ∷ vs) (c ∷ cs) = ap suc (begun_many vs cs)
 
 -- the view that the next changes are for
 pub next_there : (vs : List ViewState) (before : ChangeLists) (c : Table × List Change) (more : ChangeLists) → AreNet vs (before ++ c ∷ more) → length before < length vs
@@ -84,7 +77,7 @@ module _ {X : Type 0} (f : X → Table × List Change) (vs mid : List ViewState)
   pub view_there : i < length mid
   view_there =
       let lt = next_there vs (map f so_far) (f x) more net in
-      let many = begun_many vs (map f so_far) in
+      let many = begun_length vs (map f so_far) in
       let same : length mid ≡ length (views_with vs (map f so_far)) = ap length is in
       let count = length-map so_far f in
       omega (arith, lt, many, same, count, here)
@@ -125,22 +118,6 @@ first_at db (v ∷ views) [] i n view e f = absurd (cc)
 first_at db (v ∷ views) (m ∷ slots) zero n view e f = let same : v ≡ view = cc in let also : m ≡ n = cc in ap₂ (λ v m. Some (view_at_first db v m)) same also
 first_at db (v ∷ views) (m ∷ slots) (suc i) n view e f = first_at db views slots i n view e f
 
-pub first_many : (db : List Table) (views : List View) (slots : List ℕ) → length slots ≡ length views → length (views_at_first db views slots) ≡ length views
-first_many db [] slots e = refl
-first_many db (v ∷ views) [] e = absurd (omega (arith, e))
-first_many db (v ∷ views) (m ∷ slots) e = ap suc (first_many db views slots (omega (arith, e)))
-
-pub none_left : (db : List Table) (views : List View) (slots : List ℕ) → sum_by (λ (v : ViewState). length v.left) (views_at_first db views slots) ≡ 0
-none_left db [] slots = refl
-none_left db (v ∷ views) [] = refl
-none_left db (v ∷ views) (m ∷ slots) = let a = sum_by-cons (λ (v : ViewState). length v.left) (view_at_first db v m) (views_at_first db views slots) in let b = none_left db views slots in omega (arith, a, b)
-
-head_fits : (need have : ℕ) (rest : Option SetupErr) (e : SetupErr) → cond (leb need have) rest (Some e) ≡ None → (need ≤ have) × (rest ≡ None)
-head_fits need have rest e h = elim (leb_tells need have) [
-  | inl fits ↦ (fits.1, subst (λ b. cond b rest (Some e) ≡ None) fits.0 h)
-  | inr short ↦ absurd (let bad : Some e ≡ None = subst (λ b. cond b rest (Some e) ≡ None) short.0 h in cc)
-]
-
 -- a setup's views have slots for their first rows
 pub first_fit : (x : ℕ) (db : List Table) (views : List View) (slots : List ℕ) (i n : ℕ) (view : View) → slots_refusal x db views slots ≡ None → slice_get views i ≡ Some view → slice_get slots i ≡ Some n → length (value_of view.parts db) ≤ n
 first_fit x db [] slots i n view h e f = absurd (cc)
@@ -152,26 +129,15 @@ first_fit x db (v ∷ views) (m ∷ slots) zero n view h e f =
     subst (λ k. length (value_of view.parts db) ≤ k) also (subst (λ (w : View). length (value_of w.parts db) ≤ m) same fits.0)
 first_fit x db (v ∷ views) (m ∷ slots) (suc i) n view h e f = first_fit (suc x) db views slots i n view (head_fits (length (value_of v.parts db)) m (slots_refusal (suc x) db views slots) (Slots x) h).1 e f
 
-pub no_refusal : (b : Bool) (rest : Option SetupErr) (e : SetupErr) → cond b rest (Some e) ≡ None → rest ≡ None
-no_refusal true rest e h = h
-no_refusal false rest e h = absurd (cc)
-
 pub setup_fits : (s : SetupData) → IsSetup s → (i n : ℕ) (view : View) → slice_get s.views i ≡ Some view → slice_get s.slots i ≡ Some n → length (value_of view.parts s.initial) ≤ n
 setup_fits s h i n view e f = first_fit 0 s.initial s.views s.slots i n view (no_refusal (is_within_limits (columns_of s) s) (slots_refusal 0 s.initial s.views s.slots) Limit h.accepted) e f
 
 pub first_made : (db initial : List Table) (view : View) (rows : Table) (n : ℕ) (made : ViewState) → db ≡ initial → rows ≡ record { columns = row_columns view; rows = value_of view.parts db } → made ≡ first_view rows.columns rows.rows (n - length rows.rows) → made ≡ view_at_first initial view n
 first_made db initial view rows n made same is e = e ∙ ap (λ (t : Table). first_view t.columns t.rows (n - length t.rows)) is ∙ ap (λ db. view_at_first db view n) same
 
-first_many_slots : (rows : List Codes) (spare : ℕ) → length (first_records rows spare) ≡ length rows + spare
-first_many_slots rows spare = let all = length-append (map first_steps rows) (replicate spare []) in let own = length-map rows first_steps in let more = blank_many spare in omega (arith, all, own, more)
-  where
-    blank_many : (n : ℕ) → length (replicate {A = List Vstep} n []) ≡ n
-    blank_many zero = refl
-    blank_many (suc n) = ap suc (blank_many n)
-
 pub first_slots_few : (db : List Table) (view : View) (n : ℕ) → length (value_of view.parts db) ≤ n → n < 2 ^ 32 → HasFewSlots (view_at_first db view n)
 first_slots_few db view n fits few =
-    let many = first_many_slots (value_of view.parts db) (n - length (value_of view.parts db)) in
+    let many = first_slots (value_of view.parts db) (n - length (value_of view.parts db)) in
     let whole : length (first_records (value_of view.parts db) (n - length (value_of view.parts db))) ≡ n = omega (arith, many, fits) in
     subst (λ k. k < 2 ^ 32) (sym whole) few
 

@@ -1,4 +1,3 @@
 pub mod Begins
 pub mod Kept
-pub mod Numbers
 pub mod Steps

@@ -1,13 +1,12 @@
--- One change, and one version more.
-use Rattle.std.proofs.Common.{◌≡◌, ℕ, zero, suc, ◌+◌, ◌-◌, ◌<◌, ◌≤◌, List, [], ◌∷◌, length, map, get_or, refl, sym, ap, ap₂, subst, ◌∙◌, arith, inl, inr}
+-- One change is made.
+use Rattle.std.proofs.Common.{◌≡◌, ℕ, zero, suc, ◌+◌, ◌<◌, ◌≤◌, List, [], ◌∷◌, length, get_or, refl, sym, ap, ap₂, subst, ◌∙◌, arith, inl, inr}
 use Rattle.std.specs.Prelude.{set}
-use Rattle.std.specs.List.{sum_by}
-use Rattle.std.proofs.lemmas.List.Sums.{sum_by-cons}
 use Rattle.std.proofs.lemmas.Bool.{cases_lt}
 use Rattle.whips_rel.specs.declared.update.Change.{Change}
 use Rattle.whips_store.specs.Stores.{ViewState, no_view}
 use Rattle.whips_store.specs.Calls.{changed_view, views_changed}
 use Rattle.whips_plain_store.specs.Plain.{changed_first}
+use Rattle.whips_faithful_laws.proofs.Shapes.{by_left}
 
 -- the first x views have no change left
 abbrev pub NoneBefore : ℕ → List ViewState → Type 0
@@ -20,19 +19,13 @@ left_of : ViewState → ℕ
 left_of v = length v.left
 
 module _ (n c : ℕ) where
-  abbrev by_left : ViewState → List ViewState → List Change → List ViewState
-  by_left v vs left = elim left [
-    | [] ↦ v ∷ views_changed n c vs
-    | change ∷ others ↦ changed_view n c change others v ∷ vs
-  ]
-
   abbrev first_by_left : ViewState → List Change → ViewState
   first_by_left v left = elim left [
     | [] ↦ v
     | change ∷ others ↦ changed_view n c change others v
   ]
 
-  at_head : (v : ViewState) (vs : List ViewState) (left : List Change) → 0 < length left → by_left v vs left ≡ first_by_left v left ∷ vs
+  at_head : (v : ViewState) (vs : List ViewState) (left : List Change) → 0 < length left → by_left n c v vs left ≡ first_by_left v left ∷ vs
   at_head v vs [] lt = absurd (omega arith)
   at_head v vs (change ∷ others) lt = refl
 
@@ -41,37 +34,13 @@ module _ (n c : ℕ) where
   changed_at [] x none lt some = absurd (omega arith)
   changed_at (v ∷ vs) zero none lt some = sym (at_head v vs v.left some)
   changed_at (v ∷ vs) (suc x) none lt some =
-      ap (λ l. v ∷ l) (changed_at vs x (λ k below. none (suc k) (omega (arith, below))) (omega arith) some) ∙ sym (ap (by_left v vs) (none 0 (omega arith)))
+      ap (λ l. v ∷ l) (changed_at vs x (λ k below. none (suc k) (omega (arith, below))) (omega arith) some) ∙ sym (ap (by_left n c v vs) (none 0 (omega arith)))
 
   pub none_changed : (vs : List ViewState) (x : ℕ) → NoneBefore x vs → length vs ≤ x → vs ≡ views_changed n c vs
   none_changed [] x none le = refl
   none_changed (v ∷ vs) zero none le = absurd (omega arith)
   none_changed (v ∷ vs) (suc x) none le =
-      ap (λ l. v ∷ l) (none_changed vs x (λ k below. none (suc k) (omega (arith, below))) (omega arith)) ∙ sym (ap (by_left v vs) (none 0 (omega arith)))
-
-  -- one change fewer is left
-  pub one_fewer : (vs : List ViewState) → 0 < sum_by (λ (v : ViewState). length v.left) vs → sum_by (λ (v : ViewState). length v.left) (views_changed n c vs) ≡ sum_by (λ (v : ViewState). length v.left) vs - 1
-  one_fewer [] some = absurd (omega (arith, some))
-  one_fewer (v ∷ vs) some = go v.left refl (λ more. one_fewer vs more)
-    where
-      go : (left : List Change) → v.left ≡ left → (0 < sum_by (λ (v : ViewState). length v.left) vs → sum_by (λ (v : ViewState). length v.left) (views_changed n c vs) ≡ sum_by (λ (v : ViewState). length v.left) vs - 1)
-          → sum_by (λ (v : ViewState). length v.left) (by_left v vs left) ≡ sum_by (λ (v : ViewState). length v.left) (v ∷ vs) - 1
-      go [] e rest =
-          let none : length v.left ≡ 0 = ap length e in
-          let a = sum_by-cons (λ (v : ViewState). length v.left) v vs in
-          let b = sum_by-cons (λ (v : ViewState). length v.left) v (views_changed n c vs) in
-          let d = rest (omega (arith, some, a, none)) in
-          omega (arith, a, b, d, none)
-      go (change ∷ others) e rest =
-          let whole : length v.left ≡ suc (length others) = ap length e in
-          let a = sum_by-cons (λ (v : ViewState). length v.left) v vs in
-          let b = sum_by-cons (λ (v : ViewState). length v.left) (changed_view n c change others v) vs in
-          omega (arith, a, b, whole)
-
-pub published_left : (vs : List ViewState) → sum_by (λ (v : ViewState). length v.left) (map (λ (v : ViewState). record v { current = v.next }) vs) ≡ sum_by (λ (v : ViewState). length v.left) vs
-published_left [] = refl
-published_left (v ∷ vs) =
-    sum_by-cons (λ (v : ViewState). length v.left) (record v { current = v.next }) (map (λ (v : ViewState). record v { current = v.next }) vs) ∙ ap (λ k. length v.left + k) (published_left vs) ∙ sym (sum_by-cons (λ (v : ViewState). length v.left) v vs)
+      ap (λ l. v ∷ l) (none_changed vs x (λ k below. none (suc k) (omega (arith, below))) (omega arith)) ∙ sym (ap (by_left n c v vs) (none 0 (omega arith)))
 
 get_or_any : (l : List ViewState) (i : ℕ) (d e : ViewState) → i < length l → get_or l i d ≡ get_or l i e
 get_or_any [] i d e lt = absurd (omega arith)

@@ -1,7 +1,6 @@
 //! The views of a store at version 0.
-ghost use Rattle.std.specs.Prelude.{◌≡◌, ℕ, ◌≤◌, IfOk};
+ghost use Rattle.std.specs.Prelude.{◌≡◌, IfOk};
 ghost use Rattle.std.specs.List.{AllByRecursion};
-ghost use Rattle.whips_store.specs.Sound.{IsSoundView};
 ghost use Rattle.whips_store.specs.First.{views_at_first};
 ghost use Rattle.whips_plain.specs.Plain.{HasFewSlots};
 
@@ -22,12 +21,10 @@ fn initial_relations(alloc: Global, setup: &Setup) -> Result<Db, NoMemory>
     Ok(Db::of(relations))
 }
 
-/// The views with their values on the initial relations and the setup's slots. They are sound.
+/// The views with their values on the initial relations and the setup's slots.
 pub(crate) fn first_views(alloc: Global, setup: &Setup) -> Result<Vec<PlainView>, NoMemory>
     ensures made { IfOk result (λ views. views.items
         ≡ views_at_first setup.now.initial setup.now.views setup.now.slots) }
-    ensures sound { IfOk result (λ views. (n : ℕ) → 2 ≤ n
-        → AllByRecursion (IsSoundView n 0) views.items) }
     ensures slots { IfOk result (λ views. AllByRecursion HasFewSlots views.items) }
 {
     let db = initial_relations(alloc, setup)?;
@@ -35,7 +32,6 @@ pub(crate) fn first_views(alloc: Global, setup: &Setup) -> Result<Vec<PlainView>
     let mut views = Vec::new(alloc);
     for x in 0..setup.views() {
         let made = setup.view(x);
-        let _well = made.parts();
         let rows = made.value(&db)?;
         views.push(PlainView::make(alloc, rows, setup.slots(x) as usize)?)?;
     }

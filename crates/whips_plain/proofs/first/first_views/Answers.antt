@@ -3,11 +3,10 @@ use Rattle.std.specs.List.{AllByRecursion}
 use Rattle.std.proofs.lemmas.List.{take_all}
 use Rattle.whips_lists.proofs.Alls.{all_more}
 use Rattle.whips_model.specs.Relation.{Table, value_of}
-use Rattle.whips_store.specs.Sound.{IsSoundView}
 use Rattle.whips_store.specs.First.{view_at_first, views_at_first}
 use Rattle.whips_plain.specs.Plain.{HasFewSlots}
-use Rattle.whips_plain.proofs.Begins.{taken_more, first_at, first_many, setup_fits, first_made, first_slots_few}
-use Rattle.whips_plain.proofs.Numbers.{first_within, made_within}
+use Rattle.whips_faithful_laws.proofs.First.{first_many}
+use Rattle.whips_plain.proofs.Begins.{taken_more, first_at, setup_fits, first_made, first_slots_few}
 use Rattle.whips_plain.proofs.first.first_views.Goals as goal
 
 pub make-requires : goal.make-requires
@@ -18,11 +17,9 @@ make-requires c =
 pub loop-x-preserved : goal.loop-x-preserved
 loop-x-preserved c =
     let s = c.args.setup.now in
-    let within = made_within c.view-made.result.now c.in_ok-db.db s.initial c.in_ok-rows.rows c.in_ok-rows.ensures c.in_ok-db.ensures (first_within s c.sources-sound.ensures.sound c.loop-x.x c.view-made.result.now c.parts-well.ensures.sound c.view-made.ensures) in
     let made = first_made c.in_ok-db.db s.initial c.view-made.result.now c.in_ok-rows.rows c.slots.result c.in_ok-make.field-0 c.in_ok-db.ensures c.in_ok-rows.ensures c.in_ok-make.ensures.made in record {
       made = c.in_ok-push.ensures.items ∙ ap₂ (λ l v. l ++ v ∷ []) c.loop-x.invariant.made made ∙ sym (taken_more (views_at_first s.initial s.views s.slots) c.loop-x.x (view_at_first s.initial c.view-made.result.now c.slots.result) (first_at s.initial s.views s.slots c.loop-x.x c.slots.result c.view-made.result.now c.view-made.ensures c.slots.ensures));
       slots = subst (AllByRecursion HasFewSlots) (sym c.in_ok-push.ensures.items) (all_more HasFewSlots c.loop-x.views.items c.in_ok-make.field-0 c.loop-x.invariant.slots (subst HasFewSlots (sym made) (first_slots_few s.initial c.view-made.result.now c.slots.result (setup_fits s c.sources-sound.ensures.sound c.loop-x.x c.slots.result c.view-made.result.now c.view-made.ensures c.slots.ensures) (search rules))));
-      sound = λ n two. subst (AllByRecursion (IsSoundView n 0)) (sym c.in_ok-push.ensures.items) (all_more (IsSoundView n 0) c.loop-x.views.items c.in_ok-make.field-0 (c.loop-x.invariant.sound n two) (c.in_ok-make.ensures.sound n two within));
     }
 
 pub returns-clause-made : goal.returns-clause-made

@@ -111,22 +111,9 @@ initial_within (schema ∷ schemas) (t ∷ db) e =
     let own = and_parts (is_schema schema && are_same_columns t.columns schema && nat_le (length t.rows) 4096) (list_all (has_numbers_within t.columns.kinds) t.rows) both.0 in
     (all_pass t.columns.kinds t.rows own.1, initial_within schemas db both.1)
 
-setup_within : (s : SetupData) → IsSetup s → AreTablesWithin s.initial
+pub setup_within : (s : SetupData) → IsSetup s → AreTablesWithin s.initial
 setup_within s h =
     let limits = passed (is_within_limits (columns_of s) s) (slots_refusal 0 s.initial s.views s.slots) Limit h.accepted in
     let sources = and_parts (are_sources_within s.sources s.homes (columns_of s) s.initial) (are_views_within s.homes s.initial s.views s.slots) limits in
     let initial = and_parts (is_within 1 8 s.sources && (length s.homes == length (columns_of s)) && list_all (λ home. nat_lt home s.sources) s.homes && have_relations s.sources s.homes) (are_initial (columns_of s) s.initial) sources.0 in
     initial_within (columns_of s) s.initial initial.1
-
-bases_at : (db : List Table) (views : List View) (x : ℕ) (view : View) → AllByRecursion (λ view. HasBases view db) views → slice_get views x ≡ Some view → HasBases view db
-bases_at db [] x view h e = absurd (cc)
-bases_at db (v ∷ views) zero view h e = let same : v ≡ view = cc in subst (λ (z : View). HasBases z db) same h.0
-bases_at db (v ∷ views) (suc x) view h e = bases_at db views x view h.1 e
-
-pub first_within : (s : SetupData) → IsSetup s → (x : ℕ) (view : View) → IsWellFormed view → slice_get s.views x ≡ Some view → AreRowsWithin (row_columns view).kinds (value_of view.parts s.initial)
-first_within s h x view well e = value_within s.initial (setup_within s h) view well (bases_at s.initial s.views x view h.bases e)
-
--- the rows that were made are those of the value
-pub made_within : (view : View) (db initial : List Table) (rows : Table) → rows ≡ record { columns = row_columns view; rows = value_of view.parts db } → db ≡ initial → AreRowsWithin (row_columns view).kinds (value_of view.parts initial) → AreRowsWithin rows.columns.kinds rows.rows
-made_within view db initial rows is same h =
-    subst (λ (t : Table). AreRowsWithin t.columns.kinds t.rows) (sym is) (subst (λ d. AreRowsWithin (row_columns view).kinds (value_of view.parts d)) (sym same) h)

@@ -1,0 +1,9 @@
+pub mod Puts
+pub mod Shown
+pub mod Numbers
+pub mod Shapes
+pub mod First
+pub mod Calls
+pub mod Needs
+pub mod Scans
+pub mod Runs

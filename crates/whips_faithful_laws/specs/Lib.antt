@@ -1,0 +1,4 @@
+pub mod Faithful
+pub mod Laws
+pub mod Scans
+pub mod Runs
