@@ -1,0 +1,4 @@
+pub mod Fitting
+pub mod Follows
+pub mod Kept
+pub mod Takes

@@ -1,0 +1,2 @@
+//! The order in which the merge takes the lists of each view.
+#![tactic(auto)]

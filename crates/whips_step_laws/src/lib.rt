@@ -1,0 +1,2 @@
+//! One event of the loaded pipeline keeps all that holds of it.
+#![tactic(auto)]

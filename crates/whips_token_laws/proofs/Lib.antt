@@ -1,0 +1,4 @@
+pub mod Manages
+pub mod Projects
+pub mod Sets
+pub mod Tied

@@ -1,0 +1,2 @@
+//! Each event does to the numbers of the contents what the machine does.
+#![tactic(auto)]
