@@ -20,6 +20,7 @@ use Rattle.whips_merge.specs.Merging.{announced_row, after_rel, after_act, after
 use Rattle.whips_query.specs.declared.asks.Ask.{Ask}
 use Rattle.whips_query.specs.declared.asks.Reply.{Reply}
 use Rattle.whips_store.specs.Stores.{ViewState, StoreState, ChangeLists, changes_left}
+use Rattle.whips_store.specs.declared.error.StoreErr.{StoreErr}
 use Rattle.whips_store.specs.Calls.{shortage, begun, changed_once, published}
 use Rattle.whips_order.specs.declared.message.Message.{Message}
 use Rattle.whips_order.specs.declared.message.Message.TheVariants.{Update, Reply as SentReply}
@@ -204,9 +205,13 @@ next_loaded s l (SessionScan x y) = l
 next_loaded s l (SessionFetch x n) = l
 next_loaded s l (SessionClose x) = l
 
+-- The first view that has too few slots for the oldest transaction that waits, with what it needs and what it has; nVNL 1997.
+abbrev pub begin_refusal : SetupData → LoadedPipeline → Option StoreErr
+begin_refusal s l = option_and_then (λ t. shortage l.store (changes_of_transaction s l.store t)) (front l.merge.transactions)
+
 -- Whether a view has too few slots for the event, which only a begin needs.
 abbrev pub is_full_for : SetupData → LoadedPipeline → Event → Bool
-is_full_for s l Begin = is_some (option_and_then (λ t. shortage l.store (changes_of_transaction s l.store t)) (front l.merge.transactions))
+is_full_for s l Begin = is_some (begin_refusal s l)
 is_full_for s l _ = false
 
 -- An event that can't be done changes nothing, nor does a begin with too few slots.

@@ -34,11 +34,11 @@ use Rattle.whips_token_laws.specs.Ties.{BeginsRight}
 use Rattle.whips_token_laws.proofs.Tied.{start_projects, start_merge, enabled_same, full_same}
 use Rattle.whips_list_laws.specs.Merged.{begun_numbers, step_numbers}
 use Rattle.whips_list_laws.proofs.Merged.{start_merged}
-use Rattle.whips_step_laws.proofs.Begun.{next_is, leads}
-use Rattle.whips_step_laws.proofs.Steps.{Carried, right, projects, step_goes, step_carried}
-use Rattle.whips_step_laws.proofs.Valid.{valid_script, tables_at}
-use Rattle.whips_step_laws.proofs.Numbers.{numbers_at}
-use Rattle.whips_step_laws.proofs.Starts.{first_store, first_columns, fits_start, start_moved}
+use Rattle.whips_core_laws.proofs.Begun.{next_is, leads}
+use Rattle.whips_core_laws.proofs.Steps.{Carried, right, projects, step_goes, step_carried}
+use Rattle.whips_core_laws.proofs.Valid.{valid_script, tables_at}
+use Rattle.whips_core_laws.proofs.Numbers.{numbers_at}
+use Rattle.whips_core_laws.proofs.Starts.{first_store, first_columns, fits_start, start_moved}
 use Rattle.whips_core_laws.proofs.Calls.{fitting, calls_fit}
 use Rattle.whips_core_laws.specs.Core.{loaded_after, Carries, CoreCarries, StoresGoOn}
 
@@ -117,7 +117,7 @@ module _ (s : Script) (is : IsSetup s.setup) (works : IsWorkload s.setup s.work)
         next = next_at es;
         store = subst (λ (p : Pipeline). GoesWith s p.writer (loaded_after s es).store) r.2 r.1.goes;
         fits = fitting s is works es;
-        calls = calls_fit s is works es r.1.merged.lists_long r.2 (nets es);
+        calls = calls_fit s is works es r.1.merged.lists_long r.2 r.1.merged.store_long r.1.columns (nets es);
       }
     where
       current : {numbers : ℕ → ℕ} {sets : List (List Row)} → Holds (loaded_after s es) numbers sets → (x : ℕ) (view : View) → slice_get s.setup.views x ≡ Some view → (view_in (loaded_after s es).store x).current ≡ value_at s (keyed view) (loaded_after s es).cut

@@ -1,5 +1,12 @@
+pub mod Actions
 pub mod Announced
+pub mod Begun
 pub mod Calls
 pub mod Carried
 pub mod Named
+pub mod Numbers
 pub mod Phases
+pub mod Starts
+pub mod Steps
+pub mod Valid
+pub mod Widths

@@ -1,16 +1,18 @@
 -- That each stage may be asked what an event asks of it: the conditions of the stages' calls, where the event is enabled.
-use Rattle.std.specs.Prelude.{◌≡◌, ◌≢◌, ℕ, ◌<◌, ◌%◌, ◌^◌, true, length, slice_get, is_some, Some}
-use Rattle.std.specs.List.{All, AllPairs}
+use Rattle.std.specs.Prelude.{◌≡◌, ◌≢◌, ℕ, List, ◌<◌, ◌%◌, ◌^◌, true, length, slice_get, is_some, Some}
+use Rattle.std.specs.List.{All, AllPairs, AllByRecursion}
 use Rattle.whips_lists.specs.Lists.{front}
 use Rattle.whips_states.specs.Concerns.{concerns}
-use Rattle.whips_view.specs.ViewDefs.{keyed}
+use Rattle.whips_view.specs.ViewDefs.{View, keyed, row_columns}
 use Rattle.whips_view.specs.Widths.{widths_of}
 use Rattle.whips_actions.specs.declared.action.ActionList.{ActionList}
+use Rattle.whips_actions.specs.Lists.{AreActionsOf}
 use Rattle.whips_setup.specs.Setups.{SetupData}
 use Rattle.whips_managers.specs.Messages.{HaveWidths}
 use Rattle.whips_merge.specs.declared.lists.Transaction.{Transaction}
 use Rattle.whips_merge.specs.Merging.{MergeState}
 use Rattle.whips_query.specs.declared.asks.Ask.{Ask}
+use Rattle.whips_store.specs.Stores.{view_in}
 use Rattle.whips_store.specs.Calls.{AreNet}
 use Rattle.whips_source.specs.Asks.{IsAskTo}
 use Rattle.whips_strobe.specs.Strobes.{ManagerData, FitsManager}
@@ -29,8 +31,15 @@ pub record FitsRel (m : MergeState) (a : Announcement) : Type 0 where
   pub there : All (λ x. x < length m.lists) a.concerned
   pub once : AllPairs (λ x y. x ≢ y) a.concerned
 
--- The store can begin the transaction: its changes are net, and the phase is small. 2VNL 1997.
+-- The list's actions are those of its view: its rows have the view's columns, and its keys are of parts of it.
+abbrev pub IsListOf : List View → ActionList → Type 0
+IsListOf views list = (view : View) → slice_get views list.view ≡ Some view → AreActionsOf view list.actions
+
+-- The writer can begin the transaction: the store has the views with their columns, the lists can be applied to their rows, the changes that they make are net, and the phase is small. 2VNL 1997.
 pub record FitsBegin (s : SetupData) (l : LoadedPipeline) (t : Transaction) : Type 0 where
+  pub views : length l.store.views ≡ length s.views
+  pub columns : (x : ℕ) (view : View) → slice_get s.views x ≡ Some view → (view_in l.store x).columns ≡ row_columns view
+  pub lists : AllByRecursion (IsListOf s.views) t.lists
   pub phase : l.store.phase < 2 ^ 62
   pub net : AreNet l.store.views (changes_of_transaction s l.store t)
 

@@ -1,6 +1,7 @@
 //! The merge.
 ghost use Rattle.std.specs.Prelude.{◌≡◌, ◌≢◌, ◌<◌, true, None, [], ◌∷◌, ◌++◌, replicate, nat_lt, length, IfOk, OnOk, OnErr, IsErr};
 ghost use Rattle.std.specs.List.{All, AllPairs};
+ghost use Rattle.std.specs.Option.{option_copied};
 ghost use Rattle.whips_lists.specs.Lists.{front};
 ghost use Rattle.whips_flow.specs.State.{new_table as empty_table};
 ghost use Rattle.whips_paint.specs.Table.{ready_numbers};
@@ -170,6 +171,16 @@ impl Merge {
         ensures { result ≡ nat_lt 0 (length self.now.transactions) }
     {
         !self.held.sets.is_empty()
+    }
+
+    /// The oldest transaction that waits, which goes on waiting; `None` exactly where none waits.
+    pub fn first(&self) -> Option<&Transaction>
+        ensures { option_copied result ≡ front self.now.transactions }
+    {
+        match self.held.sets.front() {
+            Some(waiting) => Some(&waiting.transaction),
+            None => None,
+        }
     }
 
     /// Hands out the oldest transaction that waits; `None` exactly where none waits.

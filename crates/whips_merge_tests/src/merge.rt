@@ -168,6 +168,14 @@ fn is_taken(t: &Transaction, rows: &[u64], lists: &[(u32, u64)], cut: [u64; 2]) 
     (t.rows.as_slice() == rows) & are_lists(t.lists.as_slice(), lists) & (counts(&t.cut) == cut)
 }
 
+/// Whether the oldest transaction that waits is that of these rows.
+fn is_first(merge: &Merge, rows: &[u64]) -> bool {
+    match merge.first() {
+        Some(transaction) => transaction.rows.as_slice() == rows,
+        None => false,
+    }
+}
+
 /// Whether the step goes as it is to go. `last` is the last number that was announced.
 fn goes(alloc: Global, merge: &mut Merge, last: &mut u64, step: Step) -> Result<bool, NoMemory>
     requires last { merge.old.merge.table.last_announced ≡ last.old }
@@ -192,10 +200,13 @@ fn goes(alloc: Global, merge: &mut Merge, last: &mut u64, step: Step) -> Result<
         }
         Step::Waits(wanted) => Ok(merge.waits() == wanted),
         Step::None => Ok(next(merge).is_none()),
-        Step::Next(rows, lists, cut) => match next(merge) {
-            Some(transaction) => Ok(is_taken(&transaction, rows, lists, cut)),
-            None => Ok(false),
-        },
+        Step::Next(rows, lists, cut) => {
+            let is_shown = is_first(merge, rows);
+            match next(merge) {
+                Some(transaction) => Ok(is_shown & is_taken(&transaction, rows, lists, cut)),
+                None => Ok(false),
+            }
+        }
     }
 }
 

@@ -1,0 +1,49 @@
+-- A core as its callers see it, and what its type keeps.
+use Rattle.std.specs.Prelude.{◌≡◌, Bool, List}
+use Rattle.whips_states.specs.States.{Updates}
+use Rattle.whips_flow.specs.declared.event.Event.{Event}
+use Rattle.whips_flow.specs.declared.event.Event.TheVariants.{Publish}
+use Rattle.whips_lists.specs.Lists.{map_with_place}
+use Rattle.whips_setup.specs.Setups.{SetupData}
+use Rattle.whips_setup.specs.Refusals.{IsSetup}
+use Rattle.whips_setup.specs.Workloads.{IsWorkload}
+use Rattle.whips_facts.specs.Scripts.{Script}
+use Rattle.whips_order.specs.Numbering.{Counts, counts_of}
+use Rattle.whips_contents.specs.Contents.{LoadedSource, LoadedPipeline, new_loaded_source}
+use Rattle.whips_core_laws.specs.Core.{loaded_after}
+use Rattle.whips_core.specs.declared.cores.CoreStep.{CoreStep}
+use Rattle.whips_core.specs.declared.cores.CoreStep.TheVariants.{Did, Published}
+
+-- A core: its setup, the pipeline with its contents, and whether it is stopped for want of memory.
+pub record CoreData : Type 0 where
+  pub setup : SetupData
+  pub loaded : LoadedPipeline
+  pub stopped : Bool
+
+-- The script of a setup and a workload, without reader sessions.
+abbrev pub script_with : SetupData → List (List Updates) → Script
+script_with s work = record { setup = s; work = work; sessions = 0 }
+
+-- The sources are those of some workload of the setup before the first event, with empty queues.
+pub record AreFresh (s : SetupData) (sources : List LoadedSource) : Type 0 where
+  pub work : List (List Updates)
+  pub is_work : IsWorkload s work
+  pub are : sources ≡ map_with_place (new_loaded_source s) 0 work
+
+-- The pipeline is that of a valid setup and some workload of it after some events.
+pub record IsCarried (s : SetupData) (l : LoadedPipeline) : Type 0 where
+  pub valid : IsSetup s
+  pub work : List (List Updates)
+  pub is_work : IsWorkload s work
+  pub events : List Event
+  pub is : l ≡ loaded_after (script_with s work) events
+
+-- What the type keeps of a core that isn't stopped: it carries some list of events, and its integrator has the counts of its numbering.
+pub record IsCore (s : SetupData) (l : LoadedPipeline) (counts : Counts) : Type 0 where
+  pub carried : IsCarried s l
+  pub counted : counts ≡ counts_of s.sources l.numbering
+
+-- What a step answers of an event that was done.
+abbrev pub done_by : Event → CoreStep
+done_by Publish = Published
+done_by _ = Did

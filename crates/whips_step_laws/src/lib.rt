@@ -1,2 +1,0 @@
-//! One event of the loaded pipeline keeps all that holds of it.
-#![tactic(auto)]
