@@ -42,7 +42,7 @@ use Rattle.whips_writer_laws.specs.Needs.{AreViewsOf, full_of}
 use Rattle.whips_writer_laws.specs.Writers.{GoesWith, LeadToCut}
 use Rattle.whips_writer_laws.proofs.Writers.{begin_goes}
 use Rattle.whips_contents.specs.Contents.{LoadedPipeline}
-use Rattle.whips_contents.specs.Events.{rows_after, changes_of, changes_of_transaction, is_full_for, after_begin}
+use Rattle.whips_contents.specs.Events.{rows_after, changes_of, changes_of_transaction, is_full_for, after_begin, begin_refusal}
 use Rattle.whips_contents.specs.Tokens.{tokens}
 use Rattle.whips_stage_laws.proofs.Setups.{view_there, slotted_long}
 use Rattle.whips_stage_laws.specs.Fits.{FitsWork, value_after}
@@ -199,6 +199,13 @@ module _ (s : Script) (fw : FitsWork s) (valid : IsValidScript s) (homes_long : 
           ∙ (ap is_some both.0
           ∙ (some_image full_of ((facts_of s).shortage (cuts_in_use (facts_of s) (tokens (length s.setup.views) l).writer ++ t.cut ∷ []))
           ∙ ap (λ o. is_some (option_and_then (λ cut. (facts_of s).shortage (cuts_in_use (facts_of s) (tokens (length s.setup.views) l).writer ++ cut ∷ [])) o)) (sym machine_cut)))
+
+      -- the refusal names the machine's shortage
+      pub refused : begin_refusal s.setup l ≡ option_map full_of (shortage_at (facts_of s) (tokens (length s.setup.views) l) Begin)
+      refused =
+          let both = begin_goes s (tokens (length s.setup.views) l).writer t.cut l.store (changes_of_transaction s.setup l.store t) goes (sym (ap (λ n. n % 2) (sym goes.phase)) ∙ even) leads in
+          ap (λ o. option_and_then (λ t. shortage l.store (changes_of_transaction s.setup l.store t)) o) first
+          ∙ (both.0 ∙ ap (λ o. option_map full_of (option_and_then (λ cut. (facts_of s).shortage (cuts_in_use (facts_of s) (tokens (length s.setup.views) l).writer ++ cut ∷ [])) o)) (sym machine_cut))
 
     pub begins_right : BeginsRight s l
     begins_right t first even = (changes_are_counted s l t (store_is t first even), full t first even)

@@ -1,13 +1,17 @@
 -- After every list of events.
-use Rattle.std.proofs.Common.{◌≡◌, ℕ, zero, suc, ◌/◌, ◌%◌, is_some, List, [], ◌∷◌, ◌++◌, length, Some, refl, sym, ap, ap₂, subst, ◌∙◌, arith}
+use Rattle.std.proofs.Common.{◌≡◌, ℕ, zero, suc, ◌/◌, ◌%◌, true, is_some, List, [], ◌∷◌, ◌++◌, length, Some, refl, sym, ap, ap₂, subst, ◌∙◌, arith, eqb, eqb-true}
 use Rattle.std.specs.Prelude.{slice_get, slice_index_or}
+use Rattle.std.specs.Option.{option_map}
+use Rattle.std.proofs.lemmas.Bool.{and_parts}
 use Rattle.whips_lists.specs.Lists.{front}
+use Rattle.whips_lists.proofs.Options.{some_of}
 use Rattle.whips_lists.proofs.ByPlace.{get_within}
 use Rattle.whips_flow.specs.Painted.{Row}
 use Rattle.whips_flow.specs.Facts.{Facts}
 use Rattle.whips_flow.specs.State.{Pipeline, start}
 use Rattle.whips_flow.specs.Progress.{after, is_enabled, shortage_at}
 use Rattle.whips_flow.specs.declared.event.Event.{Event}
+use Rattle.whips_flow.specs.declared.event.Event.TheVariants.{Begin}
 use Rattle.whips_settled_laws.proofs.Ends.{Sound, start_sound}
 use Rattle.whips_view.specs.ViewDefs.{View, keyed}
 use Rattle.whips_setup.specs.Refusals.{IsSetup}
@@ -22,10 +26,11 @@ use Rattle.whips_store.specs.Calls.{AreNet}
 use Rattle.whips_version_laws.proofs.Kept.{Kept, start_kept}
 use Rattle.whips_faithful_laws.specs.Scans.{IsLater}
 use Rattle.whips_faithful_laws.proofs.Scans.{later_itself, later_again}
+use Rattle.whips_writer_laws.specs.Needs.{full_of}
 use Rattle.whips_writer_laws.specs.Writers.{GoesWith}
 use Rattle.whips_writer_laws.proofs.Writers.{first_goes}
 use Rattle.whips_contents.specs.Contents.{LoadedPipeline, start_loaded}
-use Rattle.whips_contents.specs.Events.{step_loaded, after_loaded, changes_of_transaction}
+use Rattle.whips_contents.specs.Events.{is_enabled_loaded, begin_refusal, step_loaded, after_loaded, changes_of_transaction}
 use Rattle.whips_contents.specs.Tokens.{tokens}
 use Rattle.whips_stage_laws.specs.Fits.{FitsWork}
 use Rattle.whips_stage_laws.proofs.Setups.{setup_fits, view_there}
@@ -34,7 +39,7 @@ use Rattle.whips_token_laws.specs.Ties.{BeginsRight}
 use Rattle.whips_token_laws.proofs.Tied.{start_projects, start_merge, enabled_same, full_same}
 use Rattle.whips_list_laws.specs.Merged.{begun_numbers, step_numbers}
 use Rattle.whips_list_laws.proofs.Merged.{start_merged}
-use Rattle.whips_core_laws.proofs.Begun.{next_is, leads}
+use Rattle.whips_core_laws.proofs.Begun.{next_is, leads, refused}
 use Rattle.whips_core_laws.proofs.Steps.{Carried, right, projects, step_goes, step_carried}
 use Rattle.whips_core_laws.proofs.Valid.{valid_script, tables_at}
 use Rattle.whips_core_laws.proofs.Numbers.{numbers_at}
@@ -101,6 +106,14 @@ module _ (s : Script) (is : IsSetup s.setup) (works : IsWorkload s.setup s.work)
       (leads s fw (valid_script s is works) is.homes (tables_at s is works) (numbers_at s is works)
       (loaded_after s es) (begun_numbers s.setup (start_loaded s.setup s.work (store_at_first s.setup)) es (λ x. 0)) r.0 r.1.merged r.1.order r.1.merge r.1.kept r.1.moved r.1.columns r.1.goes t first even).net
 
+  refuses : (es : List Event) → is_enabled_loaded (loaded_after s es) Begin ≡ true → begin_refusal s.setup (loaded_after s es) ≡ option_map full_of (shortage_at f (tokens (length s.setup.views) (loaded_after s es)) Begin)
+  refuses es en =
+      let r = holds es in
+      let both = and_parts (is_some (front (loaded_after s es).merge.transactions)) (eqb ((loaded_after s es).store.phase % 2) 0) en in
+      let t = some_of (front (loaded_after s es).merge.transactions) both.0 in
+      refused s fw (valid_script s is works) is.homes (tables_at s is works) (numbers_at s is works)
+      (loaded_after s es) (begun_numbers s.setup (start_loaded s.setup s.work (store_at_first s.setup)) es (λ x. 0)) r.0 r.1.merged r.1.order r.1.merge r.1.kept r.1.moved r.1.columns r.1.goes t.0 t.1 (eqb-true ((loaded_after s es).store.phase % 2) 0 both.1)
+
   right_at : (es : List Event) → BeginsRight s (loaded_after s es)
   right_at es =
       let r = holds es in
@@ -113,6 +126,7 @@ module _ (s : Script) (is : IsSetup s.setup) (works : IsWorkload s.setup s.work)
         tokens = r.2;
         enabled = λ e. enabled_same s (store_at_first s.setup) fw (fits_start s is works) (loaded_after s es) r.1.bare r.1.merge (right_at es) e ∙ ap (λ p. is_enabled f p e) r.2;
         full = λ e en. full_same s (store_at_first s.setup) fw (fits_start s is works) (loaded_after s es) r.1.bare r.1.merge (right_at es) e en ∙ ap (λ p. is_some (shortage_at f p e)) r.2;
+        refused = λ en. refuses es en ∙ ap (λ p. option_map full_of (shortage_at f p Begin)) r.2;
         current = λ x view there. current r.1 x view there;
         next = next_at es;
         store = subst (λ (p : Pipeline). GoesWith s p.writer (loaded_after s es).store) r.2 r.1.goes;

@@ -1,8 +1,10 @@
 -- The theorem of the core: the pipeline with its contents against the machine over numbers and the views' values, after every list of events.
 use Rattle.std.specs.Prelude.{◌≡◌, ℕ, true, List, ◌++◌, length, slice_get, is_some, Some}
+use Rattle.std.specs.Option.{option_map}
 use Rattle.whips_flow.specs.State.{Pipeline, start}
 use Rattle.whips_flow.specs.Progress.{after, is_enabled, shortage_at}
 use Rattle.whips_flow.specs.declared.event.Event.{Event}
+use Rattle.whips_flow.specs.declared.event.Event.TheVariants.{Begin}
 use Rattle.whips_view.specs.ViewDefs.{View, keyed}
 use Rattle.whips_setup.specs.Refusals.{IsSetup}
 use Rattle.whips_setup.specs.Workloads.{IsWorkload}
@@ -11,9 +13,10 @@ use Rattle.whips_facts.specs.ScriptFacts.{facts_of}
 use Rattle.whips_store.specs.Stores.{view_in}
 use Rattle.whips_store.specs.First.{store_at_first}
 use Rattle.whips_faithful_laws.specs.Scans.{IsLater}
+use Rattle.whips_writer_laws.specs.Needs.{full_of}
 use Rattle.whips_writer_laws.specs.Writers.{GoesWith}
 use Rattle.whips_contents.specs.Contents.{LoadedPipeline}
-use Rattle.whips_contents.specs.Events.{is_enabled_loaded, is_full_for, loaded_with}
+use Rattle.whips_contents.specs.Events.{is_enabled_loaded, begin_refusal, is_full_for, loaded_with}
 use Rattle.whips_contents.specs.Tokens.{tokens as tokens_of}
 use Rattle.whips_contents_laws.specs.Fitting.{AreFitting}
 use Rattle.whips_core_laws.specs.Calls.{CallsFit}
@@ -28,6 +31,8 @@ pub record Carries (s : Script) (l : LoadedPipeline) (p : Pipeline) : Type 0 whe
   pub tokens : tokens_of (length s.setup.views) l ≡ p
   pub enabled : (e : Event) → is_enabled_loaded l e ≡ is_enabled (facts_of s) p e
   pub full : (e : Event) → is_enabled_loaded l e ≡ true → is_full_for s.setup l e ≡ is_some (shortage_at (facts_of s) p e)
+  -- where a begin can be done, what the store refuses is the machine's shortage
+  pub refused : is_enabled_loaded l Begin ≡ true → begin_refusal s.setup l ≡ option_map full_of (shortage_at (facts_of s) p Begin)
   -- each view's current rows are its value at the current cut, and those that are being written at the next one
   pub current : (x : ℕ) (view : View) → slice_get s.setup.views x ≡ Some view → (view_in l.store x).current ≡ value_at s (keyed view) l.cut
   pub next : (x : ℕ) (view : View) → slice_get s.setup.views x ≡ Some view → (view_in l.store x).next ≡ value_at s (keyed view) l.target_cut
