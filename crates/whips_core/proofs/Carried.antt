@@ -1,7 +1,9 @@
 -- What a core that carries some events keeps, and what its stages may be asked.
-use Rattle.std.proofs.Common.{◌≡◌, ℕ, ◌&&◌, Bool, true, false, not, cond, List, [], ◌∷◌, ◌++◌, Option, Some, None, IfSome, refl, sym, ap, ap₂, subst, ◌∙◌}
+use Rattle.std.proofs.Common.{◌≡◌, ℕ, ◌&&◌, Bool, true, false, not, cond, List, [], ◌∷◌, ◌++◌, length, Option, Some, None, IfSome, refl, sym, ap, ap₂, subst, ◌∙◌}
 use Rattle.std.specs.Prelude.{slice_get, is_some}
+use Rattle.std.proofs.lemmas.List.{length-map}
 use Rattle.whips_lists.specs.Lists.{front}
+use Rattle.whips_states.specs.States.{Updates}
 use Rattle.whips_lists.proofs.Options.{some_of, of_some_is}
 use Rattle.whips_flow.specs.declared.event.Event.{Event}
 use Rattle.whips_actions.specs.declared.action.ActionList.{ActionList}
@@ -14,9 +16,15 @@ use Rattle.whips_store.specs.First.{store_at_first}
 use Rattle.whips_contents.specs.Contents.{Announcement, ManagerInput, LoadedSource, LoadedManager, LoadedPipeline, start_loaded}
 use Rattle.whips_contents.specs.Events.{is_enabled_loaded, is_full_for, next_loaded, step_loaded, after_loaded, oldest_input, after_input, after_manage, after_list, after_announcement, after_begin}
 use Rattle.whips_core_laws.specs.Calls.{CallsFit}
+use Rattle.whips_headline_laws.proofs.Counts.{after_counted, start_counted}
+use Rattle.whips_core_laws.proofs.Starts.{fits_start}
 use Rattle.whips_core_laws.proofs.Carried.{core_carries}
 use Rattle.whips_core.specs.Pipelines.{started}
-use Rattle.whips_core.specs.Cores.{CoreData, script_with, AreFresh, IsCarried, IsCore}
+use Rattle.whips_flow.specs.State.{Pipeline, start}
+use Rattle.whips_flow.specs.Progress.{after}
+use Rattle.whips_facts.specs.ScriptFacts.{facts_of}
+use Rattle.whips_core_laws.specs.Core.{Carries}
+use Rattle.whips_core.specs.Cores.{CoreData, script_with, AreFresh, IsCarried, IsCore, IsRun}
 
 after_more : (s : SetupData) (es : List Event) (l : LoadedPipeline) (e : Event) → after_loaded s l (es ++ e ∷ []) ≡ step_loaded s (after_loaded s l es) e
 after_more s [] l e = refl
@@ -55,9 +63,15 @@ started_core s sources store l k valid fresh first is counted = record {
   counted = counted ∙ ap (λ (p : LoadedPipeline). counts_of s.sources p.numbering) (sym is);
 }
 
+-- the theorem of the core, of a core that carries some events
+carries_of : (s : SetupData) (l : LoadedPipeline) (h : IsCarried s l) → Carries (script_with s h.work) l (after (facts_of (script_with s h.work)) (start (facts_of (script_with s h.work))) h.events)
+carries_of s l h =
+    let f = facts_of (script_with s h.work) in
+    subst (λ p. Carries (script_with s h.work) p (after f (start f) h.events)) (sym h.is) (core_carries (script_with s h.work) h.valid h.is_work h.events)
+
 -- each stage may be asked what an event asks of it
 pub calls_fit : (s : SetupData) (l : LoadedPipeline) → IsCarried s l → CallsFit s l
-calls_fit s l h = subst (CallsFit s) (sym h.is) (core_carries (script_with s h.work) h.valid h.is_work h.events).calls
+calls_fit s l h = (carries_of s l h).calls
 
 -- ---- what stands where an event is enabled
 
@@ -104,3 +118,16 @@ step_is now new e en full is = is ∙ ap (λ (p : LoadedPipeline). record now { 
 
 pub step_skips : (now : CoreData) (e : Event) → is_enabled_loaded now.loaded e ≡ false → now ≡ record now { loaded = step_loaded now.setup now.loaded e }
 step_skips now e off = ap (λ (p : LoadedPipeline). record now { loaded = p }) (sym (ap (λ (b : Bool). cond (b && not (is_full_for now.setup now.loaded e)) (next_loaded now.setup now.loaded e) now.loaded) off))
+
+-- what a run of the core has carried
+pub run_of : (s : SetupData) (l : LoadedPipeline) → IsCarried s l → IsRun s l
+run_of s l h = record { work = h.work; is_work = h.is_work; events = h.events; is = h.is; carries = carries_of s l h }
+
+-- a cut has a count for each source
+pub cut_long : (s : SetupData) (l : LoadedPipeline) → IsCarried s l → length l.cut ≡ s.sources
+cut_long s l h =
+    let script = script_with s h.work in
+    let f = facts_of script in
+    ap (λ (p : Pipeline). length p.writer.cut) (carries_of s l h).tokens
+    ∙ ((after_counted f h.events (start f) (start_counted f)).writer.current
+    ∙ (length-map h.work (λ (ts : List Updates). length ts) ∙ (fits_start script h.valid h.is_work).sources))

@@ -2,3 +2,4 @@ pub mod Places
 pub mod Changed
 pub mod Started
 pub mod Carried
+pub mod Orders

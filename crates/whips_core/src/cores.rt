@@ -1,13 +1,16 @@
 //! The core: one event of the pipeline at a time, over the sites of a setup and a store.
-ghost use Rattle.std.specs.Prelude.{◌≡◌, ◌≢◌, Some, IfErr, true, false, OnOk, OnErr, IfOk, if◌then◌else◌};
+ghost use Rattle.std.specs.Prelude.{◌≡◌, ◌≢◌, Some, IfErr, true, false, OnOk, OnErr, IfOk, find, length, if◌then◌else◌};
+ghost use Rattle.whips_flow.specs.Facts.{Facts};
+ghost use Rattle.whips_flow.specs.Progress.{pipeline_events};
 ghost use Rattle.whips_flow.specs.declared.event.Event.TheVariants.{Commit, Answer, Integrate, Manage, Rel, Act, Begin, Change, Publish};
 ghost use Rattle.whips_contents.specs.Contents.{start_loaded};
 ghost use Rattle.whips_contents.specs.Events.{begin_refusal, is_enabled_loaded, is_full_for, next_loaded, step_loaded};
 ghost use Rattle.whips_store.specs.First.{store_at_first};
 ghost use Rattle.whips_core.specs.Pipelines.{started};
-ghost use Rattle.whips_core.specs.Cores.{AreFresh, done_by};
+ghost use Rattle.whips_core.specs.Cores.{AreFresh, IsRun, done_by};
 ghost use Rattle.whips_core.specs.declared.cores.CoreStep.TheVariants.{Skipped};
 
+use crate::order::{events_of, first_of};
 use crate::pipeline::Pipeline;
 use crate::queues::SourceQueues;
 use std::alloc::Global;
@@ -37,18 +40,20 @@ pub struct Core<T: Site, S: Store> {
     setup: Setup,
     integrator: Integrator,
     pipeline: Pipeline<T, S>,
+    events: Vec<Event>,
     is_stopped: bool,
 }
 
 impl<T: Site, S: Store> Model for Core<T, S> {
     ghost use Rattle.std.specs.Prelude.{◌≡◌, false};
-    ghost use Rattle.whips_core.specs.Cores.{CoreData, IsCore};
+    ghost use Rattle.whips_core.specs.Cores.{CoreData, IsCore, AreInOrder};
 
     ghost Value = { CoreData };
 
     ghost view = { λ c. record { setup = c.setup; loaded = c.pipeline; stopped = c.is_stopped } };
 
-    ghost invariant = { λ c. c.is_stopped ≡ false → IsCore c.setup c.pipeline c.integrator };
+    ghost invariant = { λ c. (c.is_stopped ≡ false → IsCore c.setup c.pipeline c.integrator)
+        × AreInOrder c.setup c.events.items };
 }
 
 impl<T: Site, S: Store> Core<T, S> {
@@ -209,6 +214,7 @@ impl<T: Site, S: Store> Core<T, S> {
         ensures room { OnOk result (is_full_for self.old.setup self.old.loaded e.now ≡ false) }
         ensures done { IfOk result (λ r. r ≡ done_by e.now) }
         ensures err { OnErr result (self.new.stopped ≡ true) }
+        ensures change { OnErr result (e.now ≢ Change) }
     {
         match e {
             Event::Commit(y) => self.commit(*y)?,
@@ -227,9 +233,19 @@ impl<T: Site, S: Store> Core<T, S> {
         Ok(CoreStep::Did)
     }
 
+    /// The first event that can be done: publish, change and begin, then the acts by view, rel, the managers by view, the
+    /// integrator by source, the answers by source and view, and the commits by source. `None` exactly where none can.
+    pub fn first(&self) -> Option<Event>
+        ensures { (f : Facts) → length f.slots ≡ length self.now.setup.views
+            → length f.transactions ≡ self.now.setup.sources
+            → result ≡ find (is_enabled_loaded self.now.loaded) (pipeline_events f) }
+    {
+        first_of(&self.pipeline, &self.events)
+    }
+
     /// Does the event, where it can be done; otherwise nothing changes. `Full` comes exactly where the event is a begin
     /// that can be done and for which a view has too few slots, and then the core is as before. After want of memory the
-    /// core is stopped, and answers it to each later step.
+    /// core is stopped, and answers it to each later step; a change wants none.
     pub fn step(&mut self, e: &Event) -> Result<CoreStep, StoreErr>
         ensures loaded { OnOk result (self.new ≡ record self.old {
           loaded = step_loaded self.old.setup self.old.loaded e.now;
@@ -240,7 +256,10 @@ impl<T: Site, S: Store> Core<T, S> {
         ensures full { IfErr result (λ r. r ≢ StoreErr.NoMemory
             → (is_enabled_loaded self.old.loaded e.now ≡ true) × (e.now ≡ Begin)
             × (begin_refusal self.old.setup self.old.loaded ≡ Some r) × (self.new ≡ self.old)) }
+        ensures room { OnOk result (is_enabled_loaded self.old.loaded e.now ≡ true
+            → is_full_for self.old.setup self.old.loaded e.now ≡ false) }
         ensures err { IfErr result (λ r. r ≡ StoreErr.NoMemory → self.new.stopped ≡ true) }
+        ensures change { OnErr result (e.now ≡ Change → self.old.stopped ≡ true) }
     {
         if self.is_stopped {
             return Err(StoreErr::NoMemory);
@@ -258,16 +277,27 @@ impl<T: Site, S: Store> Core<T, S> {
         }
     }
 
-    /// The store.
+    /// The setup.
+    pub fn setup(&self) -> &Setup
+        ensures { result.now ≡ self.now.setup }
+    {
+        &self.setup
+    }
+
+    /// The store. Where the core isn't stopped, it has done what the machine does after some events of some workload of
+    /// its setup: its numbers are the machine's state, and at each live version the slots show the views' values at
+    /// that version's cut.
     pub fn store(&self) -> &S
-        ensures { S.state result.now ≡ self.now.loaded.store }
+        ensures store { S.state result.now ≡ self.now.loaded.store }
+        ensures carries { self.now.stopped ≡ false → IsRun self.now.setup self.now.loaded }
     {
         self.pipeline.store()
     }
 
-    /// The cut of the current version.
+    /// The cut of the current version, with a count for each source.
     pub fn cut(&self) -> &Cut
-        ensures { result.now ≡ self.now.loaded.cut }
+        ensures cut { result.now ≡ self.now.loaded.cut }
+        ensures long { self.now.stopped ≡ false → length result.now ≡ self.now.setup.sources }
     {
         self.pipeline.cut()
     }
@@ -277,6 +307,14 @@ impl<T: Site, S: Store> Core<T, S> {
         ensures { result.now ≡ self.now.loaded.earlier_cuts }
     {
         self.pipeline.earlier_cuts()
+    }
+
+    /// Hands back the sources with what is on its way at them, and the store.
+    pub fn close(self) -> (Vec<SourceQueues<T>>, S)
+        ensures sources { result.0.items ≡ self.loaded.sources }
+        ensures store { S.state result.1 ≡ self.loaded.store }
+    {
+        self.pipeline.close()
     }
 }
 
@@ -299,11 +337,13 @@ impl<T: Site + Drop, S: Store + Drop> Core<T, S> {
         let integrator = Integrator::new(alloc, &setup)?;
         let _sound = setup.sources();
         let pipeline = Pipeline::new(alloc, &setup, sources, store)?;
+        let events = events_of(alloc, setup.views(), setup.sources())?;
         Ok(Core {
             alloc,
             setup,
             integrator,
             pipeline,
+            events,
             is_stopped: false,
         })
     }

@@ -3,6 +3,7 @@
 
 mod changes;
 mod cores;
+mod order;
 mod pipeline;
 mod queues;
 

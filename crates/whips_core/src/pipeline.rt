@@ -278,6 +278,15 @@ impl<T: Site, S: Store> Pipeline<T, S> {
         self.earlier.as_slice()
     }
 
+    /// Hands back the sources with what is on its way at them, and the store.
+    pub fn close(self) -> (Vec<SourceQueues<T>>, S)
+        ensures sources { result.0.items ≡ self.sources }
+        ensures store { S.state result.1 ≡ self.store }
+    {
+        let Pipeline { sources, store, .. } = self;
+        (sources, store)
+    }
+
     /// Whether the event can be done now.
     pub fn enabled(&self, e: &Event) -> bool
         ensures { result ≡ is_enabled_loaded self.now e.now }

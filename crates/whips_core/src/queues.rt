@@ -224,6 +224,16 @@ impl<T: Site + Drop> SourceQueues<T> {
 }
 
 impl<T: Site> SourceQueues<T> {
+    /// The source alone.
+    pub fn into_site(self) -> T
+        ensures { T.state result ≡ self.site }
+    {
+        let SourceQueues { site, .. } = self;
+        site
+    }
+}
+
+impl<T: Site> SourceQueues<T> {
     ghost use Rattle.whips_source.specs.Asks.{IsAskTo};
     ghost use Rattle.whips_contents.specs.Events.{source_after_commit, source_after_oldest_ask, oldest_ask_to, with_ask_of, without_oldest_message};
 

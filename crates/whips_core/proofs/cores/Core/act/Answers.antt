@@ -9,14 +9,16 @@ use Rattle.whips_core.proofs.Carried.{closed_same, if_some, calls_fit, acted_num
 use Rattle.whips_core.proofs.cores.Core.act.Goals as goal
 
 pub act-requires-clause-fits : goal.act-requires-clause-fits
-act-requires-clause-fits g c = if_some (λ (list : ActionList). list.view < length c.self.inside.pipeline.merge.lists) (oldest_list c.self.inside.pipeline c.args.x) (λ list oldest. (calls_fit c.self.inside.setup c.self.inside.pipeline (c.self.invariant (ap (λ (d : CoreData). d.stopped) c.self.view_is ∙ c.requires.runs)).carried).lists c.args.x list oldest)
+act-requires-clause-fits g c = if_some (λ (list : ActionList). list.view < length c.self.inside.pipeline.merge.lists) (oldest_list c.self.inside.pipeline c.args.x) (λ list oldest. (calls_fit c.self.inside.setup c.self.inside.pipeline (c.self.invariant.0 (ap (λ (d : CoreData). d.stopped) c.self.view_is ∙ c.requires.runs)).carried).lists c.args.x list oldest)
 
 pub invariant_of-self-2 : goal.invariant_of-self-2
 invariant_of-self-2 g c =
     let enabled = subst (λ (d : CoreData). is_enabled_loaded d.loaded (Act c.args.x) ≡ true) (sym c.self.view_is) c.requires.enabled in
-    let t = some_of (oldest_list c.self.inside.pipeline c.args.x) enabled in
-    λ on. closed_same c.self.inside.setup c.self.inside.pipeline c.act.new.self c.self.inside.integrator (Act c.args.x) (c.self.invariant (ap (λ (d : CoreData). d.stopped) c.self.view_is ∙ c.requires.runs)) enabled refl
-    (c.in_ok-act.ensures t.0 t.1 ∙ sym (ap (λ o. after_list c.args.x o c.self.inside.pipeline) t.1)) (acted_numbering c.self.inside.pipeline c.args.x (oldest_list c.self.inside.pipeline c.args.x))
+    let t = some_of (oldest_list c.self.inside.pipeline c.args.x) enabled in (
+      λ on. closed_same c.self.inside.setup c.self.inside.pipeline c.act.new.self c.self.inside.integrator (Act c.args.x) (c.self.invariant.0 (ap (λ (d : CoreData). d.stopped) c.self.view_is ∙ c.requires.runs)) enabled refl
+          (c.in_ok-act.ensures t.0 t.1 ∙ sym (ap (λ o. after_list c.args.x o c.self.inside.pipeline) t.1)) (acted_numbering c.self.inside.pipeline c.args.x (oldest_list c.self.inside.pipeline c.args.x)),
+      c.self.invariant.1,
+    )
 
 pub returns-clause-ok : goal.returns-clause-ok
 returns-clause-ok g c =

@@ -6,4 +6,7 @@ use Rattle.whips_core.proofs.Carried.{closed_same}
 use Rattle.whips_core.proofs.cores.Core.change.Goals as goal
 
 pub invariant_of-self : goal.invariant_of-self
-invariant_of-self g c = λ on. closed_same c.self.inside.setup c.self.inside.pipeline c.change.new.self c.self.inside.integrator Change (c.self.invariant on) (subst (λ (d : CoreData). is_enabled_loaded d.loaded (Change) ≡ true) (sym c.self.view_is) c.requires.enabled) refl c.change.ensures refl
+invariant_of-self g c = (
+  λ on. closed_same c.self.inside.setup c.self.inside.pipeline c.change.new.self c.self.inside.integrator Change (c.self.invariant.0 on) (subst (λ (d : CoreData). is_enabled_loaded d.loaded (Change) ≡ true) (sym c.self.view_is) c.requires.enabled) refl c.change.ensures refl,
+  c.self.invariant.1,
+)

@@ -9,11 +9,13 @@ use Rattle.whips_core.proofs.Carried.{closed_same, if_some, calls_fit, input_the
 use Rattle.whips_core.proofs.cores.Core.manage.Goals as goal
 
 pub manage-requires : goal.manage-requires
-manage-requires g c = record { fits = λ m at. if_some (FitsInput m.manager) (front m.messages) (λ i first. (calls_fit c.self.inside.setup c.self.inside.pipeline (c.self.invariant (ap (λ (d : CoreData). d.stopped) c.self.view_is ∙ c.requires.runs)).carried).inputs c.args.x m i at first) }
+manage-requires g c = record { fits = λ m at. if_some (FitsInput m.manager) (front m.messages) (λ i first. (calls_fit c.self.inside.setup c.self.inside.pipeline (c.self.invariant.0 (ap (λ (d : CoreData). d.stopped) c.self.view_is ∙ c.requires.runs)).carried).inputs c.args.x m i at first) }
 
 pub invariant_of-self-2 : goal.invariant_of-self-2
 invariant_of-self-2 g c =
     let enabled = subst (λ (d : CoreData). is_enabled_loaded d.loaded (Manage c.args.x) ≡ true) (sym c.self.view_is) c.requires.enabled in
-    let t = input_there c.self.inside.pipeline c.args.x enabled in
-    λ on. closed_same c.self.inside.setup c.self.inside.pipeline c.manage.new.self c.self.inside.integrator (Manage c.args.x) (c.self.invariant (ap (λ (d : CoreData). d.stopped) c.self.view_is ∙ c.requires.runs)) enabled refl
-    (c.in_ok-manage.ensures t.0 t.1 t.2 t.3 ∙ managed_is c.self.inside.pipeline c.args.x t.0 t.1 t.2 t.3) (managed_numbering c.self.inside.pipeline c.args.x (slice_get c.self.inside.pipeline.managers c.args.x))
+    let t = input_there c.self.inside.pipeline c.args.x enabled in (
+      λ on. closed_same c.self.inside.setup c.self.inside.pipeline c.manage.new.self c.self.inside.integrator (Manage c.args.x) (c.self.invariant.0 (ap (λ (d : CoreData). d.stopped) c.self.view_is ∙ c.requires.runs)) enabled refl
+          (c.in_ok-manage.ensures t.0 t.1 t.2 t.3 ∙ managed_is c.self.inside.pipeline c.args.x t.0 t.1 t.2 t.3) (managed_numbering c.self.inside.pipeline c.args.x (slice_get c.self.inside.pipeline.managers c.args.x)),
+      c.self.invariant.1,
+    )
