@@ -7,7 +7,7 @@ use Rattle.serde_json.specs.Find.{get}
 use Rattle.whips_model.specs.Tuples.{Columns}
 use Rattle.whips_model.specs.Relation.{Table}
 use Rattle.whips_rel.specs.declared.update.Update.{Update}
-use Rattle.whips_states.specs.States.{Updates, state_at}
+use Rattle.whips_states.specs.States.{Updates}
 use Rattle.whips_view.specs.ViewDefs.{view_of}
 use Rattle.whips_facts.specs.Scripts.{Script, Labels}
 use Rattle.whips_view.specs.Refusals.{refusal_of}
@@ -28,10 +28,6 @@ use Rattle.whips_view_forms.specs.Views.{ViewForm, views_in}
 pub record NamedScript : Type 0 where
   pub script : Script
   pub labels : Labels
-
--- The state after all transactions of all sources.
-abbrev pub final_state : Script → List Table
-final_state s = state_at s.setup.initial s.work (map length s.work)
 
 abbrev pub are_none : Option (List Data) → Bool
 are_none None = false

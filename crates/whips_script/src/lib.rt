@@ -7,7 +7,7 @@
 mod made;
 mod script;
 
-pub use script::{Script, ScriptErr, read_script};
+pub use script::{Script, ScriptErr, ScriptParts, read_script};
 pub use whips_forms::Text;
 
 /// Why a text isn't a script.

@@ -2,13 +2,11 @@
 ghost use Rattle.std.specs.Prelude.{◌≡◌, ◌≢◌, ◌≤◌, true, false, IfOk, IfErr, OnOk, Some, None, Ok, is_some, map, length};
 ghost use Rattle.std.specs.Option.{option_map};
 ghost use Rattle.serde_json.specs.View.{view};
-ghost use Rattle.whips_model.specs.Relation.{value_of};
-ghost use Rattle.whips_states.specs.States.{all_applied};
 ghost use Rattle.whips_setup.specs.Setups.{setup_of};
-ghost use Rattle.whips_setup.specs.Refusals.{setup_refusal};
-ghost use Rattle.whips_setup.specs.Workloads.{work_refusal, one_each};
+ghost use Rattle.whips_setup.specs.Refusals.{setup_refusal, IsSetup};
+ghost use Rattle.whips_setup.specs.Workloads.{work_refusal, one_each, IsWorkload};
 ghost use Rattle.whips_script.specs.Refusals.{IsRefusalOf};
-ghost use Rattle.whips_script.specs.Script.{final_state, is_empty_list, initial_of, setup_with, are_all_distinct, script_if, script_work, script_in, script_of};
+ghost use Rattle.whips_script.specs.Script.{named_script, is_empty_list, initial_of, are_all_distinct, script_if, script_work, script_in, script_of};
 
 use crate::Refusal;
 use crate::made::{MadeViews, initial_relations, make_views, relation_names, schemas_of};
@@ -19,9 +17,8 @@ use whips_forms::{
     ObjectForm, ReadErr, Sources, Text, are_distinct, elements, is_object_of, list_of, member,
     parse, read_sources, read_work,
 };
-use whips_rel::{NoMemory, Relation, Rows, Update};
+use whips_rel::Update;
 use whips_setup::{Setup, SetupErr, WorkErr, Workload};
-use whips_view::Db;
 use whips_view_forms::{ViewForm, read_views};
 
 /// A script: sources with relations of number columns, their updates, and views.
@@ -30,20 +27,18 @@ pub struct Script {
     sources: Vec<Text>,
     setup: Setup,
     work: Workload,
-    counts: Vec<u64>,
     names: Vec<Text>,
-    last: Db,
 }
 
 impl Model for Script {
     ghost use Rattle.whips_script.specs.Script.{NamedScript, named_script};
-    ghost use Rattle.whips_script.specs.Made.{IsScript};
+    ghost use Rattle.whips_setup.specs.Workloads.{IsWorkload};
 
     ghost Value = { NamedScript };
 
     ghost view = { λ s. named_script s.setup s.work s.sources.items s.names.items };
 
-    ghost invariant = { λ s. IsScript s.setup s.work s.counts.items s.last };
+    ghost invariant = { λ s. IsWorkload s.setup s.work };
 }
 
 impl Script {
@@ -54,13 +49,6 @@ impl Script {
         &self.sources
     }
 
-    /// The number of each source's transactions.
-    pub fn transactions(&self) -> &[u64]
-        ensures { result.now ≡ map length self.now.script.work }
-    {
-        &self.counts
-    }
-
     /// The names of its views.
     pub fn views(&self) -> &[Text]
         ensures { result.now ≡ self.now.labels.views }
@@ -68,17 +56,34 @@ impl Script {
         &self.names
     }
 
-    /// The value of each view on the state after all transactions.
-    pub fn final_values(&self, alloc: Global) -> Result<Vec<Rows>, NoMemory>
-        ensures { IfOk result (λ values. map (λ t. t.rows) values.items
-            ≡ map (λ v. value_of v.parts (final_state self.now.script)) self.now.script.setup.views) }
+    /// The setup and the transactions, with the names of the sources and of the views.
+    pub fn into_parts(self) -> ScriptParts
+        ensures parts { self ≡ named_script result.setup result.work
+            result.sources.items result.views.items }
+        ensures setup { IsSetup result.setup }
+        ensures work { IsWorkload result.setup result.work }
     {
-        let mut values = Vec::new(alloc);
-        for x in 0..self.setup.views() {
-            values.push(self.setup.view(x).value(&self.last)?)?;
+        let _sound = self.setup.sources();
+        ScriptParts {
+            sources: self.sources,
+            setup: self.setup,
+            work: self.work,
+            views: self.names,
         }
-        Ok(values)
     }
+}
+
+/// What a script is made of. `Script::into_parts` says that the transactions are valid for the setup.
+#[derive(Drop)]
+pub struct ScriptParts {
+    /// The names of the sources.
+    pub sources: Vec<Text>,
+    /// The sources with their relations, and the views over them with their slots.
+    pub setup: Setup,
+    /// The transactions of each source.
+    pub work: Workload,
+    /// The names of the views.
+    pub views: Vec<Text>,
 }
 
 /// Why bytes aren't read as a script.
@@ -88,18 +93,6 @@ pub enum ScriptErr {
     Refused(Refusal),
     /// There was no memory for it.
     NoMemory,
-}
-
-/// How many updates each source makes.
-fn counts_of(alloc: Global, work: &[Vec<Update>]) -> Result<Vec<u64>, ReadErr>
-    ensures ok { IfOk result (λ counts. counts.items ≡ map (λ us. length us.items) work.now) }
-    ensures memory { IfErr result (λ e. e ≡ ReadErr.NoMemory) }
-{
-    let mut counts = Vec::new(alloc);
-    for updates in work {
-        counts.push(updates.len() as u64)?;
-    }
-    Ok(counts)
 }
 
 /// The setup of these sources with these views, where nothing refuses it.
@@ -132,7 +125,7 @@ fn make_setup(
 /// The workload of these updates, each a transaction of its own, where nothing refuses it.
 fn make_work(alloc: Global, setup: &Setup, work: Vec<Vec<Update>>) -> Result<Workload, ReadErr>
     ensures ok { IfOk result (λ w. (w ≡ one_each (map (λ us. us.items) work.items))
-        × (work_refusal setup.now w ≡ None)) }
+        × IsWorkload setup.now w) }
     ensures refused { IfErr result (λ e. e ≢ ReadErr.NoMemory
         → is_some (work_refusal setup.now (one_each (map (λ us. us.items) work.items))) ≡ true) }
 {
@@ -161,19 +154,15 @@ fn make_script(
     sources: Sources,
     names: Vec<Text>,
     work: Vec<Vec<Update>>,
-    last: Vec<Relation>,
     views: Vec<ViewForm>,
 ) -> Result<Script, ReadErr>
     requires names { names.items ≡ map (λ r. r.name) sources.relations }
     requires few { length sources.names ≤ 8 }
-    requires last { last.items ≡ all_applied (initial_of sources)
-        (map (λ us. us.items) work.items) }
     ensures ok { IfOk result (λ s. script_if sources (map (λ us. us.items) work.items) views.items
         ≡ Some s) }
     ensures refused { IfErr result (λ e. e ≢ ReadErr.NoMemory
         → script_if sources (map (λ us. us.items) work.items) views.items ≡ None) }
 {
-    let counts = counts_of(alloc, &work)?;
     let schemas = schemas_of(alloc, &sources.relations)?;
     let made = make_views(alloc, &schemas, views)?;
     check_names(&sources.names, &names, &made.names)?;
@@ -183,9 +172,7 @@ fn make_script(
         sources: sources.names,
         setup,
         work,
-        counts,
         names: made.names,
-        last: Db::of(last),
     })
 }
 
@@ -204,11 +191,11 @@ fn read_rest(
         → script_work (view document.now) sources (map view items.now) ≡ None) }
 {
     let names = relation_names(alloc, &sources.relations)?;
-    let mut last = initial_relations(alloc, &sources.relations)?;
-    let work = read_work(alloc, &names, &mut last, items)?;
+    let mut relations = initial_relations(alloc, &sources.relations)?;
+    let work = read_work(alloc, &names, &mut relations, items)?;
     let list = member(document, "views")?;
     let views = read_views(alloc, &sources.relations, &sources.homes, list)?;
-    make_script(alloc, sources, names, work, last, views)
+    make_script(alloc, sources, names, work, views)
 }
 
 /// Whether the member is missing, or an empty list.
