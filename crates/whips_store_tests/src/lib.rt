@@ -1,4 +1,4 @@
-//! Tests alone: an index of slots, a plain view, and runs of stores of two views, with a reader's looks.
+//! Tests alone: an index of slots, a plain view, and runs of stores of two views, with a reader's looks and sessions.
 #![tactic(auto)]
 
 #[cfg(test)]
@@ -7,6 +7,8 @@ mod index;
 mod looks;
 #[cfg(test)]
 mod plain_view;
+#[cfg(test)]
+mod readers;
 #[cfg(test)]
 mod rows;
 #[cfg(test)]
