@@ -1,0 +1,6 @@
+mod Grows
+mod Drains
+mod Moves
+mod Ways
+pub mod Errors
+mod Starts

@@ -1,0 +1,47 @@
+use Rattle.std.proofs.Common.{[], length, map, refl, ap, subst, ◌∙◌}
+use Rattle.whips_setup.specs.Refusals.{IsSetup}
+use Rattle.whips_facts.specs.Scripts.{Script}
+use Rattle.whips_contents.specs.Contents.{LoadedSource}
+use Rattle.whips_report.specs.declared.sink.RecordErr.TheVariants.{NoMemory}
+use Rattle.whips_world.specs.Runs.{TellsPart, TellsWhole}
+use Rattle.whips_world.proofs.Errors.{err_with, if_err, if_is_ok}
+use Rattle.whips_world.proofs.Starts.{script_is, starts}
+use Rattle.whips_world.proofs.runs.run.Goals as goal
+
+pub returns-in_err-counts-clause-memory : goal.returns-in_err-counts-clause-memory
+returns-in_err-counts-clause-memory g c = err_with c.from_residual.result NoMemory _ c.from_residual.ensures.1 (λ is work is_work are. ([], (_, refl), g.met.K.RecordSink.told_none c.args.sink.now))
+
+pub returns-in_err-core-clause-memory : goal.returns-in_err-core-clause-memory
+returns-in_err-core-clause-memory g c = err_with c.from_residual-in_err-core.result NoMemory _ c.from_residual-in_err-core.ensures.1 (λ is work is_work are. ([], (_, refl), g.met.K.RecordSink.told_none c.args.sink.now))
+
+pub run_on-requires : goal.run_on-requires
+run_on-requires g c = λ κs lives. (
+  lives.0,
+  (
+    lives.1.0,
+    (
+      lives.1.1.0,
+      (
+        lives.1.1.1,
+        starts c.args.setup c.args.sources.items (g.S.Store.state c.args.store) c.in_ok-core.core c.in_ok-core.ensures c.args.sink.now c.deref-2.result.now
+            (subst IsSetup c.setup.view_is c.setup.invariant) c.requires.fresh c.requires.store
+            (c.deref-2.ensures.value ∙ (c.in_ok-counts.ensures ∙ ap (map (λ (z : LoadedSource). length z.site.left)) c.deref.ensures.value)),
+      ),
+    ),
+  ),
+)
+
+pub returns-clause-told : goal.returns-clause-told
+returns-clause-told g c = if_is_ok c.run_on.result c.run_on.ensures.told (λ full t work is_work are.
+    subst (λ (s : Script). TellsWhole g.K.RecordSink.told (record { script = s; events = []; sink = c.args.sink.now }) c.run_on.new.sink full)
+    (script_is c.args.setup c.args.sources.items (g.S.Store.state c.args.store) c.in_ok-core.core c.in_ok-core.ensures work are) t)
+
+pub returns-clause-memory : goal.returns-clause-memory
+returns-clause-memory g c = if_err c.run_on.result c.run_on.ensures.memory (λ e t is work is_work are.
+    subst (λ (s : Script). TellsPart g.K.RecordSink.told (record { script = s; events = []; sink = c.args.sink.now }) c.run_on.new.sink)
+    (script_is c.args.setup c.args.sources.items (g.S.Store.state c.args.store) c.in_ok-core.core c.in_ok-core.ensures work are) (t is))
+
+pub returns-clause-failed : goal.returns-clause-failed
+returns-clause-failed g c = if_err c.run_on.result c.run_on.ensures.failed (λ e t is work is_work are.
+    subst (λ (s : Script). TellsPart g.K.RecordSink.failed (record { script = s; events = []; sink = c.args.sink.now }) c.run_on.new.sink)
+    (script_is c.args.setup c.args.sources.items (g.S.Store.state c.args.store) c.in_ok-core.core c.in_ok-core.ensures work are) (t is))

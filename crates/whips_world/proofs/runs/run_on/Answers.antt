@@ -1,0 +1,42 @@
+use Rattle.std.proofs.Common.{subst}
+use Rattle.whips_world.specs.Runs.{IsDrained}
+use Rattle.whips_world.proofs.Errors.{err_with}
+use Rattle.whips_world.proofs.Ways.{way_begins, begin_tried, rest_ends, end_told, end_tried}
+use Rattle.whips_world.proofs.runs.run_on.Goals as goal
+
+pub returns-in_err-tell_version-clause-failed : goal.returns-in_err-tell_version-clause-failed
+returns-in_err-tell_version-clause-failed g c =
+    err_with c.from_residual.result c.in_err-tell_version.field-0.0 _ c.from_residual.ensures.1
+    (λ is. begin_tried g.K.RecordSink.told g.met.K.RecordSink.told_more g.at g.K.RecordSink.failed c.args.core.now c.args.sink.now c.tell_version.new.sink c.args.transactions.now c.requires.1.1.1.1 (c.in_err-tell_version.ensures.failed is))
+
+pub drain-requires : goal.drain-requires
+drain-requires g c = λ κs lives. (
+  lives.0,
+  (
+    lives.1.0,
+    (
+      lives.1.1.0,
+      (
+        lives.1.1.1,
+        way_begins g.K.RecordSink.told g.met.K.RecordSink.told_more g.at c.args.core.now c.args.sink.now c.tell_version.new.sink c.args.transactions.now c.requires.1.1.1.1 c.in_ok-tell_version.ensures.told,
+      ),
+    ),
+  ),
+)
+
+pub returns-in_err-tell_end-clause-memory : goal.returns-in_err-tell_end-clause-memory
+returns-in_err-tell_end-clause-memory g c =
+    let drained = subst (IsDrained g.K.RecordSink.told g.at c.drain.new.core c.drain.new.sink) c.if-branch.false c.in_ok-drain.ensures.ok in
+    err_with c.from_residual-in_err-tell_end.result c.in_err-tell_end.field-0.0 _ c.from_residual-in_err-tell_end.ensures.1 (λ is. let t = c.in_err-tell_end.ensures.memory is in
+    end_told g.K.RecordSink.told g.met.K.RecordSink.told_more g.at c.drain.new.core c.drain.new.sink drained c.args.transactions.now c.requires.1.1.1.1.counts c.tell_end.new.sink t.0 t.1 t.2)
+
+pub returns-in_err-tell_end-clause-failed : goal.returns-in_err-tell_end-clause-failed
+returns-in_err-tell_end-clause-failed g c =
+    let drained = subst (IsDrained g.K.RecordSink.told g.at c.drain.new.core c.drain.new.sink) c.if-branch.false c.in_ok-drain.ensures.ok in
+    err_with c.from_residual-in_err-tell_end.result c.in_err-tell_end.field-0.0 _ c.from_residual-in_err-tell_end.ensures.1 (λ is. let t = c.in_err-tell_end.ensures.failed is in
+    end_tried g.K.RecordSink.told g.met.K.RecordSink.told_more g.at c.drain.new.core c.drain.new.sink drained c.args.transactions.now c.requires.1.1.1.1.counts g.K.RecordSink.failed g.met.K.RecordSink.failed_later c.tell_end.new.sink t.0 t.1 t.2)
+
+pub returns-clause-told : goal.returns-clause-told
+returns-clause-told g c =
+    let drained = subst (IsDrained g.K.RecordSink.told g.at c.drain.new.core c.drain.new.sink) c.if-branch.false c.in_ok-drain.ensures.ok in
+    rest_ends g.K.RecordSink.told g.met.K.RecordSink.told_more g.at c.drain.new.core c.drain.new.sink drained c.args.transactions.now c.requires.1.1.1.1.counts c.tell_end.new.sink c.in_ok-tell_end.ensures.told

@@ -1,0 +1,4 @@
+use Rattle.whips_world.proofs.runs.run_on.Given as goal
+
+abbrev pub ghost-drain : goal.ghost-drain
+ghost-drain g a = g.at

@@ -1,0 +1,96 @@
+//! A run from its start to its end.
+ghost use Rattle.std.specs.Prelude.{◌≡◌, List, [], length, map, IfOk, IfErr};
+ghost use Rattle.whips_lists.specs.Lists.{map_with_place};
+ghost use Rattle.whips_states.specs.States.{Updates};
+ghost use Rattle.whips_setup.specs.Workloads.{IsWorkload};
+ghost use Rattle.whips_store.specs.First.{store_at_first};
+ghost use Rattle.whips_contents.specs.Contents.{new_loaded_source};
+ghost use Rattle.whips_core.specs.Cores.{AreFresh, script_with};
+ghost use Rattle.whips_world.specs.Runs.{Start, IsStart, TellsPart, TellsWhole};
+
+use crate::events::drain;
+use crate::lines::{tell_end, tell_version};
+use std::alloc::Global;
+use whips_core::{Core, SourceQueues};
+use whips_rel::NoMemory;
+use whips_report::{RecordErr, RecordSink};
+use whips_setup::Setup;
+use whips_source::Site;
+use whips_store::Store;
+
+/// How many transactions each source has left.
+fn transactions_left<T: Site>(
+    alloc: Global,
+    sources: &[SourceQueues<T>],
+) -> Result<Vec<u64>, NoMemory>
+    ensures { IfOk result (λ counts. counts.items ≡ map (λ s. length s.site.left) sources.now) }
+{
+    let mut counts = Vec::with_capacity(alloc, sources.len())?;
+    for source in sources {
+        counts.push(source.site.left())?;
+    }
+    Ok(counts)
+}
+
+/// The run of a core before its first event, to its end. It answers whether it ended full.
+fn run_on<T: Site, S: Store, K: RecordSink>(
+    alloc: Global,
+    core: &mut Core<T, S>,
+    transactions: &[u64],
+    sink: &mut K,
+) -> Result<bool, RecordErr>
+    ghost at: { Start K }
+    requires { IsStart at core.old sink.old transactions.now }
+    ensures told { IfOk result (λ full. TellsWhole K.told at sink.new full) }
+    ensures memory { IfErr result (λ r. r ≡ RecordErr.NoMemory → TellsPart K.told at sink.new) }
+    ensures failed { IfErr result (λ r. r ≡ RecordErr.Failed → TellsPart K.failed at sink.new) }
+{
+    tell_version(alloc, core, sink)?;
+    if drain(alloc, core, sink)? {
+        return Ok(true);
+    }
+    tell_end(core, transactions, sink)?;
+    Ok(false)
+}
+
+/// Runs the script of this setup and the workload that the sources have, without sessions and by an empty schedule:
+/// the first event that can be done again and again, until none is left or a view has too few slots. The sink is told
+/// the records of the run, one at a time. It answers whether a view had too few slots, which ended the run. Where it
+/// fails, the sink was told a first part of these records.
+pub fn run<T: Site + Drop, S: Store + Drop, K: RecordSink>(
+    alloc: Global,
+    setup: Setup,
+    sources: Vec<SourceQueues<T>>,
+    store: S,
+    sink: &mut K,
+) -> Result<bool, RecordErr>
+    requires fresh { AreFresh setup sources.items }
+    requires store { S.state store ≡ store_at_first setup }
+    ensures told { IfOk result (λ full. (work : List (List Updates)) → IsWorkload setup work
+        → sources.items ≡ map_with_place (new_loaded_source setup) 0 work
+        → TellsWhole K.told (record {
+          script = script_with setup work;
+          events = [];
+          sink = sink.old;
+        }) sink.new full) }
+    ensures memory { IfErr result (λ r. r ≡ RecordErr.NoMemory → (work : List (List Updates))
+        → IsWorkload setup work
+        → sources.items ≡ map_with_place (new_loaded_source setup) 0 work
+        → TellsPart K.told (record {
+          script = script_with setup work;
+          events = [];
+          sink = sink.old;
+        }) sink.new) }
+    ensures failed { IfErr result (λ r. r ≡ RecordErr.Failed → (work : List (List Updates))
+        → IsWorkload setup work
+        → sources.items ≡ map_with_place (new_loaded_source setup) 0 work
+        → TellsPart K.failed (record {
+          script = script_with setup work;
+          events = [];
+          sink = sink.old;
+        }) sink.new) }
+{
+    let counts = transactions_left(alloc, &sources)?;
+    let mut core = Core::new(alloc, setup, sources, store)?;
+    run_on(alloc, &mut core, &counts, sink)
+}
