@@ -1,5 +1,5 @@
-//! The program `whips`. With the one word `run` it reads a script from standard input, and writes
-//! the final state of its source and of its view to standard output.
+//! The program `whips`. With the one word `run` it reads a script from standard input, runs it, and
+//! writes the report of the run to standard output.
 #![tactic(auto)]
 
 use std::alloc::AllocError;

@@ -1,3 +1,3 @@
-pub mod Answers
-pub mod Outcomes
-pub mod Words
+mod Lefts
+mod Reports
+mod Answered

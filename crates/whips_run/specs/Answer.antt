@@ -1,15 +1,28 @@
 -- What the program answers for a whole input.
-use Rattle.std.specs.Prelude.{ℕ, List, length, map, codes, Result, Ok, Err}
-use Rattle.whips_model.specs.Relation.{value_of}
+use Rattle.std.specs.Prelude.{ℕ, List, [], ◌∷◌, ◌++◌, codes, Result, Ok, Err, if◌then◌else◌}
+use Rattle.whips_runs.specs.World.{World}
+use Rattle.whips_facts.specs.Scripts.{Script}
+use Rattle.whips_reports.specs.Reported.{listed, run_of}
+use Rattle.whips_reports.specs.Lines.{report}
 use Rattle.whips_script.specs.declared.Refusal.{Refusal}
 use Rattle.whips_script.specs.declared.Refusal.TheVariants.{Syntax, Unbuilt}
-use Rattle.whips_script.specs.Script.{NamedScript, final_state, script_of}
-use Rattle.whips_run.specs.Lines.{line, final_text}
+use Rattle.whips_script.specs.Script.{NamedScript, script_of}
 
--- The text of a script: the number of all transactions of each source, and the value of each view on the state after
--- all of them.
-abbrev pub script_text : NamedScript → List ℕ
-script_text n = final_text n.labels.sources (map length n.script.work) n.labels.views (map (λ v. value_of v.parts (final_state n.script)) n.script.setup.views)
+-- A text with a line feed.
+abbrev pub line : List ℕ → List ℕ
+line text = text ++ 10 ∷ []
+
+-- The run of a script by the schedule that has no events: the first event that can be done again and again, until none is left or a view has too few slots.
+abbrev pub run_of_script : Script → World
+run_of_script s = run_of s (listed [])
+
+-- The report of that run.
+abbrev pub report_of : NamedScript → List ℕ
+report_of n = report n.script n.labels (listed [])
+
+-- The status of a run to its end: 7 where a view had too few slots, which ended it.
+abbrev pub run_status : World → ℕ
+run_status w = if w.is_full then 7 else 0
 
 -- The text of a refusal: its code, and its place.
 abbrev pub refusal_text : Refusal → List ℕ
@@ -18,7 +31,7 @@ refusal_text Unbuilt = line (codes "refused Unbuilt document")
 
 -- The status and the text for bytes that are a script, and for those that are refused.
 abbrev pub answer_of : Result NamedScript Refusal → ℕ × List ℕ
-answer_of (Ok s) = (0, script_text s)
+answer_of (Ok n) = (run_status (run_of_script n.script), report_of n)
 answer_of (Err refusal) = (3, refusal_text refusal)
 
 -- The status and the text for a whole input.

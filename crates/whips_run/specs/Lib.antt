@@ -1,3 +1,3 @@
-pub mod Lines
 pub mod Answer
+pub mod Written
 pub mod Outcome

@@ -1,11 +1,13 @@
 -- How a call of the program ends.
-use Rattle.std.specs.Prelude.{◌≡◌, ℕ, ◌≤◌, Bool, true, false, List, [], ◌∷◌, length, Option, codes}
+use Rattle.std.specs.Prelude.{◌≡◌, ℕ, ◌≤◌, Bool, true, false, List, [], ◌∷◌, length, Option, codes, Ok}
 use Rattle.std.specs.Str.{bytes_eq}
-use Rattle.std.specs.Io.KnownBytes.{Consumes, IsAtEnd}
+use Rattle.std.specs.Io.KnownBytes.{Appends, Consumes, IsAtEnd}
 use Rattle.whips_io.specs.Bytes.{ConsumesExactly}
 use Rattle.whips_io.specs.Counts.{HasRisen}
-use Rattle.whips_run.specs.Lines.{line}
-use Rattle.whips_run.specs.Answer.{answer}
+use Rattle.whips_reports.specs.Reported.{reported}
+use Rattle.whips_script.specs.Script.{NamedScript, script_of}
+use Rattle.whips_headline_laws.specs.Headline.{Headline}
+use Rattle.whips_run.specs.Answer.{line, run_of_script, report_of, answer}
 
 -- Whether the words are the command `run` alone.
 abbrev pub is_run : List (List ℕ) → Bool
@@ -42,3 +44,10 @@ IsOutcome words old new faults faults' usage = (is_run words ≡ false) × Consu
 IsOutcome words old new faults faults' read_fault = (is_run words ≡ true) × HasRisen faults faults'
 IsOutcome words old new faults faults' too_long = (is_run words ≡ true) × ConsumesExactly 16777217 old new
 IsOutcome words old new faults faults' (whole bytes) = (is_run words ≡ true) × (length bytes ≤ 16777216) × Consumes old new bytes × IsAtEnd new
+
+-- The bytes are a script, what was written is its report, and that report meets the headline.
+pub record MeetsHeadline (bytes : List ℕ) (old new : Option (List ℕ)) : Type 0 where
+  pub named : NamedScript
+  pub is : script_of bytes ≡ Ok named
+  pub written : Appends old new (report_of named)
+  pub headline : Headline named.script (reported named.script (run_of_script named.script))

@@ -1,8 +1,11 @@
 //! The program `whips` as a function of its words, its input and its output.
 #![tactic(auto)]
 
-mod answer;
-mod lines;
+mod answers;
+mod runs;
+mod sources;
 mod top;
+mod writing;
 
+pub use sources::sources_of;
 pub use top::{Ended, run};

@@ -1,12 +1,13 @@
 // The top call.
-ghost use Rattle.std.specs.Prelude.{◌≡◌, ◌≢◌, ◌<◌, ℕ, List, [], length, map, take, string_bytes};
-ghost use Rattle.std.specs.Io.KnownBytes.{Appends};
+ghost use Rattle.std.specs.Prelude.{◌≡◌, ◌≢◌, ◌<◌, ◌⊎◌, ℕ, List, [], length, map, take, string_bytes};
+ghost use Rattle.std.specs.Io.KnownBytes.{Appends, Consumes, IsAtEnd};
 ghost use Rattle.whips_io.specs.Counts.{HasRisen};
-ghost use Rattle.whips_run.specs.Outcome.{is_run, Outcome, IsOutcome, status_of, text_of};
+ghost use Rattle.whips_run.specs.Outcome.{is_run, Outcome, IsOutcome, status_of, text_of, MeetsHeadline};
 
-use crate::answer::answer_to;
+use crate::answers::answer_to;
+use crate::writing::end_with;
 use std::alloc::Global;
-use whips_io::{ReadErr, Sink, Source, WriteFault, read_all, write_all};
+use whips_io::{ReadErr, Sink, Source, read_all};
 
 /// The most bytes that an input has.
 const LIMIT: usize = 16_777_216;
@@ -22,12 +23,13 @@ pub struct Ended {
     /// - 4: the source failed
     /// - 5: the sink failed
     /// - 6: there was no memory
+    /// - 7: a view has too few slots, which ended the run
     /// - 8: the input is longer than 16,777,216 bytes
     pub status: u8,
 }
 
-/// Does what the words say: with the one word `run`, reads a script from the input and writes the
-/// final state of its source and of its view.
+/// Does what the words say: with the one word `run`, reads a script from the input, runs it, and writes the report of
+/// the run, a record at a time: each committed version with its cut, and the views at the end.
 pub fn run<I: Source, O: Sink>(
     alloc: Global,
     words: &Vec<String>,
@@ -49,22 +51,30 @@ pub fn run<I: Source, O: Sink>(
         (take n (text_of o))
         × HasRisen (O.faults output.old) (O.faults output.new) }
 
-    // There was no memory, and nothing is written.
-    ensures no_memory { result.status ≡ 6 → Appends (O.written output.old)
-        (O.written output.new) [] }
+    // There was no memory. Nothing is written, or a first part of that text.
+    ensures no_memory { result.status ≡ 6
+        → Appends (O.written output.old) (O.written output.new) []
+        ⊎ ((o : Outcome) × (n : ℕ)
+        × IsOutcome (map string_bytes words.now.items) (I.left input.old) (I.left input.new)
+        (I.faults input.old) (I.faults input.new) o
+        × Appends (O.written output.old) (O.written output.new) (take n (text_of o))) }
+
+    // With status 0 or 7 the whole input is a script, what is written is its report, and that meets the headline.
+    ensures headline { (result.status ≡ 0) ⊎ (result.status ≡ 7) → (bytes : List ℕ)
+        × Consumes (I.left input.old) (I.left input.new) bytes × IsAtEnd (I.left input.new)
+        × MeetsHeadline bytes (O.written output.old) (O.written output.new) }
 {
     if !is_run(words) {
-        return end_with(2, "usage: whips run, check or make START SIZE\n", output);
+        let status = end_with(2, "usage: whips run, check or make START SIZE\n", output);
+        return Ended { status };
     }
-    match read_all(alloc, input, LIMIT) {
-        Ok(bytes) => match answer_to(alloc, &bytes) {
-            Ok(answer) => end_with(answer.status, answer.text.as_str(), output),
-            Err(_) => Ended { status: 6 },
-        },
+    let status = match read_all(alloc, input, LIMIT) {
+        Ok(bytes) => answer_to(alloc, bytes, output),
         Err(ReadErr::ReadFault) => end_with(4, "read fault\n", output),
         Err(ReadErr::TooLong) => end_with(8, "too long\n", output),
-        Err(ReadErr::NoMemory) => Ended { status: 6 },
-    }
+        Err(ReadErr::NoMemory) => 6,
+    };
+    Ended { status }
 }
 
 /// Whether the words are the command `run` alone.
@@ -75,19 +85,5 @@ fn is_run(words: &[String]) -> bool
         [] => false,
         [word] => word.as_str() == "run",
         [_, _, ..] => false,
-    }
-}
-
-/// Writes the text and ends with the status, or with 5 where the sink failed.
-fn end_with<O: Sink>(status: u8, text: &str, output: &mut O) -> Ended
-    ensures ended { result.status ≢ 5 → (result.status ≡ status)
-        × Appends (O.written output.old) (O.written output.new) text.now }
-    ensures sink_failed { result.status ≡ 5 → status ≢ 5 → (n : ℕ) × (n < length text.now)
-        × Appends (O.written output.old) (O.written output.new) (take n text.now)
-        × HasRisen (O.faults output.old) (O.faults output.new) }
-{
-    match write_all(output, text.as_bytes()) {
-        Ok(()) => Ended { status },
-        Err(WriteFault) => Ended { status: 5 },
     }
 }

@@ -1,5 +1,0 @@
-use Rattle.std.proofs.Common.{length}
-use Rattle.whips_run.proofs.lines.+push_views.Given as goal
-
-abbrev pub decreases-push_views : goal.decreases-push_views
-decreases-push_views l = length l.names.now

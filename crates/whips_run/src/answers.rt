@@ -1,0 +1,65 @@
+//! What the program answers to a whole input.
+ghost use Rattle.std.specs.Prelude.{◌≡◌, ◌≢◌, ◌<◌, ◌⊎◌, ℕ, length, take};
+ghost use Rattle.std.specs.Io.KnownBytes.{Appends};
+ghost use Rattle.whips_io.specs.Counts.{HasRisen};
+ghost use Rattle.whips_facts.specs.Values.{IsValidScript};
+ghost use Rattle.whips_run.specs.Answer.{answer, run_of_script, run_status, report_of, refusal_text};
+ghost use Rattle.whips_run.specs.Outcome.{MeetsHeadline};
+
+use crate::runs::write_report;
+use crate::writing::end_with;
+use std::alloc::Global;
+use whips_io::Sink;
+use whips_report::RecordErr;
+use whips_script::{Refusal, Script, ScriptErr, read_script};
+
+/// The text of a refusal.
+fn refusal_text(refusal: Refusal) -> &'static str
+    ensures { result.now ≡ refusal_text refusal }
+{
+    match refusal {
+        Refusal::Syntax => "refused Syntax document\n",
+        Refusal::Unbuilt => "refused Unbuilt document\n",
+    }
+}
+
+/// Runs the script, writes its report, and gives the status.
+fn answer_script<O: Sink>(alloc: Global, script: Script, output: &mut O) -> u8
+    ensures ended { result ≢ 5 → result ≢ 6 → (result ≡ run_status (run_of_script script.script))
+        × Appends (O.written output.old) (O.written output.new) (report_of script) }
+    ensures sink_failed { result ≡ 5 → (n : ℕ) × (n < length (report_of script))
+        × Appends (O.written output.old) (O.written output.new) (take n (report_of script))
+        × HasRisen (O.faults output.old) (O.faults output.new) }
+    ensures no_memory { result ≡ 6 → (n : ℕ)
+        × Appends (O.written output.old) (O.written output.new) (take n (report_of script)) }
+    ensures valid { result ≢ 5 → result ≢ 6 → IsValidScript script.script }
+{
+    match write_report(alloc, script, output) {
+        Ok(true) => 7,
+        Ok(false) => 0,
+        Err(RecordErr::Failed) => 5,
+        Err(RecordErr::NoMemory) => 6,
+    }
+}
+
+/// Answers a whole input on the output, and gives the status.
+pub(crate) fn answer_to<O: Sink>(alloc: Global, bytes: Vec<u8>, output: &mut O) -> u8
+    ensures ended { result ≢ 5 → result ≢ 6 → (result ≡ (answer bytes.items).0)
+        × Appends (O.written output.old) (O.written output.new) (answer bytes.items).1 }
+    ensures sink_failed { result ≡ 5 → (n : ℕ) × (n < length (answer bytes.items).1)
+        × Appends (O.written output.old) (O.written output.new) (take n (answer bytes.items).1)
+        × HasRisen (O.faults output.old) (O.faults output.new) }
+    ensures no_memory { result ≡ 6 → (n : ℕ)
+        × Appends (O.written output.old) (O.written output.new) (take n (answer bytes.items).1) }
+    ensures headline { (result ≡ 0) ⊎ (result ≡ 7)
+        → MeetsHeadline bytes.items (O.written output.old) (O.written output.new) }
+{
+    match read_script(alloc, &bytes) {
+        Ok(script) => {
+            drop(bytes);
+            answer_script(alloc, script, output)
+        }
+        Err(ScriptErr::Refused(refusal)) => end_with(3, refusal_text(refusal), output),
+        Err(ScriptErr::NoMemory) => 6,
+    }
+}

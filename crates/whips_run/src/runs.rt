@@ -1,0 +1,160 @@
+//! The run of a script, whose lines go to the output.
+ghost use Rattle.std.specs.Prelude.{◌≡◌, ◌<◌, ℕ, List, [], length, take, IfOk, OnOk, IfErr};
+ghost use Rattle.whips_lists.specs.Lists.{map_with_place};
+ghost use Rattle.whips_states.specs.States.{Updates};
+ghost use Rattle.whips_contents.specs.Contents.{new_loaded_source};
+ghost use Rattle.std.specs.Io.KnownBytes.{Appends};
+ghost use Rattle.whips_io.specs.Counts.{HasRisen};
+ghost use Rattle.whips_setup.specs.Refusals.{IsSetup};
+ghost use Rattle.whips_setup.specs.Workloads.{IsWorkload};
+ghost use Rattle.whips_facts.specs.Values.{IsValidScript};
+ghost use Rattle.whips_core.specs.Cores.{AreFresh, script_with};
+ghost use Rattle.whips_world.specs.Runs.{TellsPart, TellsWhole};
+ghost use Rattle.whips_reports.specs.Reported.{listed};
+ghost use Rattle.whips_reports.specs.Lines.{report};
+ghost use Rattle.whips_report.specs.Told.{output_at};
+ghost use Rattle.whips_run.specs.Answer.{run_of_script, report_of};
+ghost use Rattle.whips_run.specs.Written.{HasWritten};
+
+use crate::sources::sources_of;
+use std::alloc::Global;
+use whips_core::SourceQueues;
+use whips_io::Sink;
+use whips_plain::Plain;
+use whips_report::{Labels, LineSink, RecordErr, RecordSink};
+use whips_script::{Script, ScriptParts};
+use whips_setup::{Setup, Workload};
+use whips_source::Held;
+use whips_world::run;
+
+/// Runs a setup over these sources, in plain memory. It answers whether a view had too few slots.
+fn run_sources<K: RecordSink>(
+    alloc: Global,
+    setup: Setup,
+    sources: Vec<SourceQueues<Held>>,
+    sink: &mut K,
+) -> Result<bool, RecordErr>
+    requires { AreFresh setup sources.items }
+    ensures told { IfOk result (λ full. (work : List (List Updates)) → IsWorkload setup work
+        → sources.items ≡ map_with_place (new_loaded_source setup) 0 work
+        → TellsWhole K.told (record {
+          script = script_with setup work;
+          events = [];
+          sink = sink.old;
+        }) sink.new full) }
+    ensures memory { IfErr result (λ r. r ≡ RecordErr.NoMemory → (work : List (List Updates))
+        → IsWorkload setup work
+        → sources.items ≡ map_with_place (new_loaded_source setup) 0 work
+        → TellsPart K.told (record {
+          script = script_with setup work;
+          events = [];
+          sink = sink.old;
+        }) sink.new) }
+    ensures failed { IfErr result (λ r. r ≡ RecordErr.Failed → (work : List (List Updates))
+        → IsWorkload setup work
+        → sources.items ≡ map_with_place (new_loaded_source setup) 0 work
+        → TellsPart K.failed (record {
+          script = script_with setup work;
+          events = [];
+          sink = sink.old;
+        }) sink.new) }
+{
+    let store = Plain::make(alloc, &setup)?;
+    run(alloc, setup, sources, store, sink)
+}
+
+/// Runs a setup and a workload of it, in plain memory. It answers whether a view had too few slots.
+fn run_work<K: RecordSink>(
+    alloc: Global,
+    setup: Setup,
+    work: Workload,
+    sink: &mut K,
+) -> Result<bool, RecordErr>
+    requires setup { IsSetup setup }
+    requires work { IsWorkload setup work }
+    ensures told { IfOk result (λ full. TellsWhole K.told (record {
+      script = script_with setup work;
+      events = [];
+      sink = sink.old;
+    }) sink.new full) }
+    ensures memory { IfErr result (λ r. r ≡ RecordErr.NoMemory → TellsPart K.told (record {
+      script = script_with setup work;
+      events = [];
+      sink = sink.old;
+    }) sink.new) }
+    ensures failed { IfErr result (λ r. r ≡ RecordErr.Failed → TellsPart K.failed (record {
+      script = script_with setup work;
+      events = [];
+      sink = sink.old;
+    }) sink.new) }
+{
+    let sources = sources_of(alloc, &setup, work)?;
+    run_sources(alloc, setup, sources, sink)
+}
+
+/// Runs a setup and a workload of it, and writes the report through the sink of lines.
+fn run_lines<O: Sink>(
+    alloc: Global,
+    setup: Setup,
+    work: Workload,
+    sink: &mut LineSink<O>,
+) -> Result<bool, RecordErr>
+    requires setup { IsSetup setup }
+    requires work { IsWorkload setup work }
+    requires same { sink.old.setup.now ≡ setup }
+    ensures { (sink.new.output.ghost_name ≡ sink.old.output.ghost_name)
+        × HasWritten (report (script_with setup work) sink.old.labels.now (listed []))
+        (run_of_script (script_with setup work)).is_full result
+        (output_at O.written O.faults sink.old.output.now)
+        (output_at O.written O.faults sink.new.output.now) }
+{
+    run_work(alloc, setup, work, sink)
+}
+
+/// A setup and a workload of it.
+#[derive(Drop)]
+struct Job {
+    setup: Setup,
+    work: Workload,
+}
+
+/// Runs a setup and a workload of it, and writes the report with these names.
+fn write_job<O: Sink>(
+    alloc: Global,
+    job: Job,
+    labels: &Labels,
+    setup: &Setup,
+    output: &mut O,
+) -> Result<bool, RecordErr>
+    requires setup { IsSetup job.setup }
+    requires work { IsWorkload job.setup job.work }
+    requires same { setup.now ≡ job.setup }
+    ensures { HasWritten (report (script_with job.setup job.work) labels.now (listed []))
+        (run_of_script (script_with job.setup job.work)).is_full result
+        (output_at O.written O.faults output.old) (output_at O.written O.faults output.new) }
+{
+    let Job { setup: own, work } = job;
+    let mut sink = LineSink::new(output, labels, setup, alloc);
+    run_lines(alloc, own, work, &mut sink)
+}
+
+/// Runs the script and writes its report, a record at a time. It answers whether a view had too few slots.
+pub(crate) fn write_report<O: Sink>(
+    alloc: Global,
+    script: Script,
+    output: &mut O,
+) -> Result<bool, RecordErr>
+    ensures written { HasWritten (report_of script) (run_of_script script.script).is_full result
+        (output_at O.written O.faults output.old) (output_at O.written O.faults output.new) }
+    ensures valid { OnOk result (IsValidScript script.script) }
+{
+    let ScriptParts {
+        sources,
+        setup,
+        work,
+        views,
+    } = script.into_parts();
+    let copy = setup.copy()?;
+    let labels = Labels::new(&sources, &views, &[], &[]);
+    write_job(alloc, Job { setup, work }, &labels, &copy, output)
+}
