@@ -1,6 +1,7 @@
 """Times a program on inputs of growing sizes."""
 import ctypes
 import os
+import re
 import statistics
 import subprocess
 import sys
@@ -22,6 +23,7 @@ def run(command, words, path):
     A shell starts the program and ends, so that the peak isn't that of this interpreter before it became the program;
     the program then becomes a child of this process, which is its subreaper.
     """
+    ctypes.CDLL(None).prctl(PR_SET_CHILD_SUBREAPER, 1, 0, 0, 0)
     begin = time.perf_counter()
     subprocess.run(["sh", "-c", 'input=$1; shift; "$0" "$@" <"$input" >/dev/null &', command, path, *words], check=True)
     _, status, usage = os.wait4(-1, 0)
@@ -31,10 +33,17 @@ def run(command, words, path):
     return seconds, usage.ru_maxrss
 
 
+def instructions(command, words, path=os.devnull):
+    """The instructions of one run with these words on this input, counted by valgrind."""
+    with open(path) as file:
+        lines = subprocess.run(["valgrind", "--tool=callgrind", "--callgrind-out-file=/dev/null", command, *words],
+                               stdin=file, stdout=subprocess.DEVNULL, stderr=subprocess.PIPE, check=True, text=True).stderr
+    return int(re.search(r"Collected *: *(\d+)", lines).group(1))
+
+
 def table(what, sizes, text=lambda size: "", words=lambda size: ["run"], name="whips"):
     """Prints, for the input and the words of each size, the median seconds of nine runs, the peak memory, and the growth.
     Returns the seconds."""
-    ctypes.CDLL(None).prctl(PR_SET_CHILD_SUBREAPER, 1, 0, 0, 0)
     print(f"{what:>8} {'seconds':>9} {'kilobytes':>10} {'time':>6} {'memory':>7}")
     before = None
     medians = []

@@ -4,6 +4,8 @@
 #[cfg(test)]
 mod io;
 #[cfg(test)]
+mod report;
+#[cfg(test)]
 mod run;
 #[cfg(test)]
 mod script;

@@ -1,7 +1,7 @@
 //! Scripts that are read, and texts that are refused.
 use std::alloc::{AllocError, Global};
-use whips_rel::{NoMemory, Rows};
-use whips_script::{Refusal, Script, ScriptErr, read_script};
+use whips_rel::{Trans, Update};
+use whips_script::{Refusal, ScriptErr, ScriptParts, Text, read_script};
 
 /// A script of one relation with a view of it, around these rows, updates and out columns.
 fn script_with(alloc: Global, rows: &str, updates: &str, out: &str) -> Result<String, AllocError> {
@@ -18,47 +18,111 @@ fn script_with(alloc: Global, rows: &str, updates: &str, out: &str) -> Result<St
     Ok(text)
 }
 
-/// Whether the script has one source with three transactions and one view.
-fn has_one_of_each(script: &Script) -> bool {
-    (script.sources().len() == 1)
-        & (script.views().len() == 1)
-        & (script.transactions() == [3u64].as_slice())
-}
-
-/// Whether the one view has three rows in the end.
-fn has_three_rows(alloc: Global, script: &Script) -> Result<bool, NoMemory> {
-    let values = script.final_values(alloc)?;
-    Ok(are_three(values.as_slice()))
-}
-
-fn are_three(values: &[Rows]) -> bool {
-    match values {
-        [rows] => rows.len() == 3,
+/// Whether the transaction is an insert of the row into relation 0.
+fn is_insert(transaction: &Trans, row: &[u64]) -> bool {
+    match transaction.items.as_slice() {
+        [Update::Insert(0, tuple)] => tuple.codes() == row,
         _ => false,
     }
 }
 
-/// Whether the bytes are such a script.
-fn is_read(alloc: Global, bytes: &[u8]) -> Result<bool, NoMemory> {
-    match read_script(alloc, bytes) {
-        Ok(script) => Ok(has_one_of_each(&script) & has_three_rows(alloc, &script)?),
-        Err(_) => Ok(false),
+/// Whether the transaction is a delete of the row from relation 0.
+fn is_delete(transaction: &Trans, row: &[u64]) -> bool {
+    match transaction.items.as_slice() {
+        [Update::Delete(0, tuple)] => tuple.codes() == row,
+        _ => false,
     }
 }
 
-fn has_three_transactions(alloc: Global) -> Result<bool, NoMemory> {
+/// Whether the one source deletes a row, whole though its key alone was said, and inserts two.
+fn are_three(lists: &[Vec<Trans>]) -> bool {
+    match lists {
+        [list] => match list.as_slice() {
+            [first, second, third] => {
+                is_delete(first, &[1, 5]) & is_insert(second, &[3, 7]) & is_insert(third, &[1, 8])
+            }
+            _ => false,
+        },
+        _ => false,
+    }
+}
+
+/// Whether the parts have this many sources and views.
+fn have_numbers(parts: &ScriptParts, sources: u32, views: u32) -> bool {
+    (parts.setup.sources() == sources)
+        & (parts.sources.len() == sources as usize)
+        & (parts.setup.views() == views)
+        & (parts.views.len() == views as usize)
+}
+
+/// Whether the bytes are a script of one source with those transactions and one view.
+fn is_read(alloc: Global, bytes: &[u8]) -> bool {
+    match read_script(alloc, bytes) {
+        Ok(script) => {
+            let parts = script.into_parts();
+            have_numbers(&parts, 1, 1) & are_three(&parts.work.parts())
+        }
+        Err(_) => false,
+    }
+}
+
+fn has_three_transactions(alloc: Global) -> Result<bool, AllocError> {
     let text = script_with(
         alloc,
         "[[2,6],[1,5]]",
         r#"[["delete","R",[1]],["insert","R",[3,7]],["insert","R",[1,8]]]"#,
         r#"["R.b","R.a"]"#,
     )?;
-    is_read(alloc, text.as_bytes())
+    Ok(is_read(alloc, text.as_bytes()))
 }
 
 #[test]
 fn a_script_is_read(rt: HostRuntime) {
     assert!(rt; matches!(has_three_transactions(rt.alloc()), Ok(true)));
+}
+
+/// Two sources, of which the second has no updates, and two views.
+const TWO: &[u8] = br#"{"sources":[
+    {"name":"A","relations":[{"name":"R","columns":[["a","number"]],"key":["a"],"rows":[[1]]}],
+        "updates":[["insert","R",[2]],["delete","R",[1]]]},
+    {"name":"B","relations":[{"name":"S","columns":[["b","number"]],"key":["b"],"rows":[]}],
+        "updates":[]}],
+    "views":[{"name":"V","relations":["S"],"out":["S.b"]},
+        {"name":"W","relations":["R","S"],"out":["R.a","S.b"]}]}"#;
+
+/// Whether these are the two names, in this order.
+fn are_named(names: &[Text], first: &str, second: &str) -> bool {
+    match names {
+        [one, other] => (one.as_str() == first) & (other.as_str() == second),
+        _ => false,
+    }
+}
+
+/// Whether there are two sources, with this many transactions.
+fn have_lengths(lists: &[Vec<Trans>], first: usize, second: usize) -> bool {
+    match lists {
+        [one, other] => (one.len() == first) & (other.len() == second),
+        _ => false,
+    }
+}
+
+/// Whether the bytes are a script whose parts are those of `TWO`.
+fn are_both_read(alloc: Global, bytes: &[u8]) -> bool {
+    match read_script(alloc, bytes) {
+        Ok(script) => {
+            let parts = script.into_parts();
+            have_numbers(&parts, 2, 2)
+                & are_named(&parts.sources, "A", "B")
+                & are_named(&parts.views, "V", "W")
+                & have_lengths(&parts.work.parts(), 2, 0)
+        }
+        Err(_) => false,
+    }
+}
+
+#[test]
+fn sources_and_views_keep_their_order(rt: HostRuntime) {
+    assert!(rt; are_both_read(rt.alloc(), TWO));
 }
 
 /// Whether the bytes are refused so.

@@ -1,0 +1,108 @@
+#!/usr/bin/env python3
+"""Writes the scripts that `bench/run` runs to a folder. The same script comes out each time.
+
+    bench/scripts.py FOLDER [NAME..]
+
+two      two sources of two relations with 4,096 rows each, 4,096 updates a source, and three joined views
+two_N    the same with N rows a relation and N updates a source, where N is 256, 512, 1024 or 2048
+fan      a small relation joined to a large one, so that an update of it changes about 47 rows
+"""
+import json
+import os
+import random
+import sys
+
+SIZES = [256, 512, 1024, 2048]
+
+
+class Source:
+    """A source whose updates delete a key that is there or insert one that isn't."""
+
+    def __init__(self, name, pick):
+        self.name, self.pick, self.relations, self.keys = name, pick, [], {}
+
+    def relation(self, name, columns, rows, keys, rest):
+        """Adds a relation with so many rows, of so many keys that there may be. `rest` gives a row's columns after its key."""
+        there = self.pick.sample(range(keys), rows)
+        self.keys[name] = (keys, rest, set(there), list(there))
+        self.relations.append({"name": name, "columns": columns, "key": [columns[0][0]], "rows": [[key, *rest(key)] for key in there]})
+
+    def update(self, name, deletes=0.5):
+        """An update of the relation, of which this part are deletes."""
+        keys, rest, there, listed = self.keys[name]
+        if there and (self.pick.random() < deletes or len(there) >= keys):
+            at = self.pick.randrange(len(listed))
+            key, listed[at] = listed[at], listed[-1]
+            listed.pop()
+            there.remove(key)
+            return ["delete", name, [key]]
+        key = self.pick.randrange(keys)
+        while key in there:
+            key = self.pick.randrange(keys)
+        there.add(key)
+        listed.append(key)
+        return ["insert", name, [key, *rest(key)]]
+
+    def written(self, updates):
+        return {"name": self.name, "relations": self.relations, "updates": updates}
+
+
+def columns(*names):
+    return [[name, "number"] for name in names]
+
+
+def view(name, relations, equal, out, **more):
+    return {"name": name, "relations": relations, "equal": equal, **more, "out": out, "slots": 4096}
+
+
+LINES = view("lines", ["orders", "items"], [["orders.item", "items.item"]], ["orders.id", "items.item", "items.bin", "orders.qty"])
+BILL = view("bill", ["customers", "orders", "prices"], [["customers.id", "orders.cust"], ["orders.item", "prices.item"]],
+            ["customers.id", "customers.name", "orders.id", "prices.item", "prices.cents", "orders.qty"])
+STOCK = view("stock", ["items", "prices"], [["items.item", "prices.item"]], ["items.item", "prices.item", "items.bin", "prices.cents"],
+             where=[["items.bin", "<", 900]])
+
+
+def two(rows, has_texts=True):
+    """Two sources of two relations with so many rows each, and as many updates a source. Without texts a customer's name is
+    a number."""
+    pick = random.Random(1)
+    keys = rows * 3 // 2
+    first, second = Source("A", pick), Source("B", pick)
+    first.relation("orders", columns("id", "item", "cust", "qty"), rows, keys,
+                   lambda key: [pick.randrange(keys), pick.randrange(keys), pick.randrange(100)])
+    first.relation("customers", [["id", "number"], ["name", "text" if has_texts else "number"]], rows, keys,
+                   lambda key: [f"name {key % 977}" if has_texts else key % 977])
+    second.relation("items", columns("item", "bin"), rows, keys, lambda key: [pick.randrange(1000)])
+    second.relation("prices", columns("item", "cents"), rows, keys, lambda key: [pick.randrange(100000)])
+    sold = [first.update("orders" if pick.random() < 0.7 else "customers") for _ in range(rows)]
+    moved = [second.update("items" if pick.random() < 0.5 else "prices") for _ in range(rows)]
+    return {"sources": [first.written(sold), second.written(moved)], "views": [LINES, BILL, STOCK]}
+
+
+def fan():
+    """Orders of 96 items, of which each is in some 47."""
+    pick = random.Random(2)
+    first, second = Source("A", pick), Source("B", pick)
+    first.relation("orders", columns("id", "item", "qty"), 4096, 4600, lambda key: [pick.randrange(96), pick.randrange(100)])
+    second.relation("items", columns("item", "bin"), 64, 96, lambda key: [pick.randrange(1000)])
+    sold = [first.update("orders") for _ in range(4096)]
+    moved = [second.update("items", 0.52) for _ in range(4096)]
+    return {"sources": [first.written(sold), second.written(moved)], "views": [LINES]}
+
+
+NAMES = [*(f"two_{size}" for size in SIZES), "two", "fan"]
+
+
+def script(name, has_texts=True):
+    """The text of the script with this name."""
+    made = fan() if name == "fan" else two(int(name[4:] or 4096), has_texts)
+    return json.dumps(made, separators=(",", ":"))
+
+
+if __name__ == "__main__":
+    if len(sys.argv) < 2:
+        sys.exit(__doc__)
+    os.makedirs(sys.argv[1], exist_ok=True)
+    for name in sys.argv[2:] or NAMES:
+        with open(os.path.join(sys.argv[1], f"{name}.json"), "w") as file:
+            file.write(script(name))
