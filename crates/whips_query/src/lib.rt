@@ -4,6 +4,7 @@
 
 mod answers;
 mod asks;
+mod candidates;
 mod choice;
 mod rows;
 

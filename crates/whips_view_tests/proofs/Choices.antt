@@ -1,6 +1,7 @@
 -- Worked partial choices.
 use Rattle.std.proofs.Common.{◌≡◌, ◌≢◌, ℕ, zero, suc, ◌<◌, true, inl, inr, None, is_some, [], ◌∷◌, get_or, refl, ap, arith}
 use Rattle.std.specs.List.{AllByRecursion}
+use Rattle.whips_lists.specs.Members.{AreDistinct}
 use Rattle.whips_model.specs.Tuples.{Codes}
 use Rattle.whips_lists.proofs.Members.{has_none, has_cases}
 use Rattle.whips_choices.specs.Partials.{Partial, slot, seed}
@@ -29,3 +30,7 @@ differ_two t u ne = (λ q h. elim (has_cases q (seed 1 0 u) [] h) [ inl same ↦
       in_right = ap (λ z. slot z 0) same;
       differ = λ e. ne (ap (λ l. get_or l 0 0) e);
     }
+
+-- two parts that differ
+pub distinct_two : (i j : ℕ) → i ≢ j → AreDistinct (i ∷ j ∷ [])
+distinct_two i j ne = (λ h. elim (has_cases i j [] h) [ inl same ↦ ne same | inr k ↦ has_none i k ], (has_none j, tt))

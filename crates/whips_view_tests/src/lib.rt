@@ -2,6 +2,8 @@
 #![tactic(auto)]
 
 #[cfg(test)]
+mod joins;
+#[cfg(test)]
 mod order;
 #[cfg(test)]
 mod query;

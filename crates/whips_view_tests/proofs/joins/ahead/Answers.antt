@@ -1,0 +1,6 @@
+use Rattle.std.proofs.Common.{arith}
+use Rattle.whips_view_tests.proofs.Choices.{distinct_two}
+use Rattle.whips_view_tests.proofs.joins.ahead.Goals as goal
+
+pub extend-requires-clause-distinct : goal.extend-requires-clause-distinct
+extend-requires-clause-distinct c = distinct_two 0 1 (λ e. omega arith)
