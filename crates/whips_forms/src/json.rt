@@ -101,6 +101,8 @@ pub enum ObjectForm {
     Relation,
     /// A view.
     View,
+    /// A schedule.
+    Schedule,
 }
 
 /// Whether an object of this form may have a member with this name.
@@ -108,13 +110,14 @@ fn is_member_of(form: ObjectForm, name: &str) -> bool
     ensures { result ≡ is_member_of form name.now }
 {
     match form {
-        ObjectForm::Document => matches!(name, "sources" | "views" | "sessions"),
+        ObjectForm::Document => matches!(name, "sources" | "views" | "sessions" | "schedule"),
         ObjectForm::Source => matches!(name, "name" | "relations" | "updates"),
         ObjectForm::Relation => matches!(name, "name" | "columns" | "key" | "rows"),
         ObjectForm::View => matches!(
             name,
             "name" | "relations" | "equal" | "where" | "out" | "slots"
         ),
+        ObjectForm::Schedule => matches!(name, "events"),
     }
 }
 

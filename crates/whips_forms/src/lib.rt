@@ -10,7 +10,7 @@ mod source;
 mod text;
 
 pub use json::{ObjectForm, elements, elements_within, is_object_of, list_of, member, parse};
-pub use relation::{RelationForm, read_place};
+pub use relation::{RelationForm, place_of, read_place};
 pub use rows::{read_number, read_work};
 pub use source::{Sources, read_sources};
 use std::alloc::{AllocError, AllocFailed};

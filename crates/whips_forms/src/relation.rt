@@ -91,8 +91,8 @@ fn read_columns(alloc: Global, value: &Value) -> Result<Vec<Text>, ReadErr>
     Err(ReadErr::Unbuilt)
 }
 
-/// The place of the text among these names.
-fn place_of(names: &[Text], text: &str) -> Option<usize>
+/// The place of the text among these names, the first where it stands twice.
+pub fn place_of(names: &[Text], text: &str) -> Option<usize>
     ensures place { result ≡ place_of names.now text.now }
     ensures there { IfSome result (λ i. i < length names.now) }
 {

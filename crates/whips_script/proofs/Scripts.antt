@@ -12,7 +12,7 @@ use Rattle.whips_setup.specs.Workloads.{work_refusal, one_each}
 use Rattle.whips_forms.specs.Json.{Text}
 use Rattle.whips_forms.specs.Relations.{SourcesForm}
 use Rattle.whips_view_forms.specs.Views.{ViewForm}
-use Rattle.whips_script.specs.Script.{named_script, schemas_of, initial_of, setup_with, are_all_distinct, have_names, are_views_over, is_accepted, script_with, script_if}
+use Rattle.whips_script.specs.Script.{named_script, labels_of, schemas_of, initial_of, setup_with, are_all_distinct, have_names, are_views_over, is_accepted, script_with, script_if}
 
 -- ---- the script
 
@@ -47,10 +47,10 @@ pub work_refuses : (ss : SourcesForm) (work : List (List Update)) (vs : List Vie
 work_refuses ss work vs e = accepted_not ss work vs (ap (λ b. not (is_some (setup_refusal (schemas_of ss) (setup_with ss vs))) && not b) e ∙ and_false (not (is_some (setup_refusal (schemas_of ss) (setup_with ss vs)))))
 
 script_same : (ss : SourcesForm) (work : List (List Update)) (vs : List ViewForm) (setup : SetupData) → setup ≡ setup_with ss vs → (views : List Text) (w : List (List Updates)) → views ≡ map (λ (v : ViewForm). v.name) vs → w ≡ one_each work
-    → script_with ss work vs ≡ named_script setup w ss.names views
+    → script_with ss work vs ≡ named_script setup w (labels_of ss.names views []) []
 script_same ss work vs setup is views w named list =
-    ap₂ (λ (d : SetupData) (l : List (List Updates)). named_script d l ss.names (map (λ (v : ViewForm). v.name) vs)) (sym is) (sym list)
-    ∙ ap (named_script setup w ss.names) (sym named)
+    ap₂ (λ (d : SetupData) (l : List (List Updates)). named_script d l (labels_of ss.names (map (λ (v : ViewForm). v.name) vs) []) []) (sym is) (sym list)
+    ∙ ap (λ (l : List Text). named_script setup w (labels_of ss.names l []) []) (sym named)
 
 -- ---- a script that is made step by step, of sources that are kept
 
@@ -74,7 +74,7 @@ module _ (ss kept : SourcesForm) (work : List (List Update)) (vs : List ViewForm
 
       pub script_ok : (names views : List Text) (w : List (List Updates)) → names ≡ map (λ r. r.name) ss.relations → views ≡ map (λ v. v.name) vs → are_all_distinct kept.names names views ≡ true → are_views_over schemas vs ≡ true
           → setup_refusal (schemas_of kept) setup ≡ None → w ≡ one_each work → work_refusal setup w ≡ None
-          → script_if ss work vs ≡ Some (named_script setup w kept.names views)
+          → script_if ss work vs ≡ Some (named_script setup w (labels_of kept.names views []) [])
       script_ok names views w relations named distinct passed accepted list valid =
           ap (λ s. script_if s work vs) (sym same)
           ∙ script_made kept work vs

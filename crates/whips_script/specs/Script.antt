@@ -1,9 +1,10 @@
 -- What a script is, and which bytes are one.
-use Rattle.std.specs.Prelude.{ℕ, ◌&&◌, Bool, not, true, false, List, [], ◌∷◌, length, map, codes, Option, Some, None, Result, Err, option_and_then, is_some, if◌then◌else◌}
-use Rattle.std.specs.Option.{ok_or}
+use Rattle.std.specs.Prelude.{ℕ, ◌&&◌, Bool, not, List, [], length, map, codes, Option, Some, None, Result, Err, option_and_then, is_some, if◌then◌else◌}
+use Rattle.std.specs.Option.{ok_or, option_map}
 use Rattle.std.specs.List.{list_all}
 use Rattle.serde_json.specs.Data.{Data}
 use Rattle.serde_json.specs.Find.{get}
+use Rattle.whips_flow.specs.declared.event.Event.{Event}
 use Rattle.whips_model.specs.Tuples.{Columns}
 use Rattle.whips_model.specs.Relation.{Table}
 use Rattle.whips_rel.specs.declared.update.Update.{Update}
@@ -23,21 +24,13 @@ use Rattle.whips_forms.specs.Forms.{is_member_of}
 use Rattle.whips_forms.specs.Rows.{work_in}
 use Rattle.whips_forms.specs.Relations.{SourcesForm, sources_in}
 use Rattle.whips_view_forms.specs.Views.{ViewForm, views_in}
+use Rattle.whips_schedule_forms.specs.Schedules.{PlanForm, plan_in}
 
--- What is read: a script, and the names in it.
+-- What is read: a script, the names in it, and the events of its schedule.
 pub record NamedScript : Type 0 where
   pub script : Script
   pub labels : Labels
-
-abbrev pub are_none : Option (List Data) → Bool
-are_none None = false
-are_none (Some []) = true
-are_none (Some (d ∷ ds)) = false
-
--- Whether the member is missing, or an empty list.
-abbrev pub is_empty_list : Option Data → Bool
-is_empty_list None = true
-is_empty_list (Some d) = are_none (elements d)
+  pub events : List Event
 
 -- The relations with their initial rows, and their columns.
 abbrev pub initial_of : SourcesForm → List Table
@@ -65,17 +58,23 @@ are_views_over schemas vs = list_all (λ v. not (is_some (refusal_of schemas v.p
 abbrev pub is_accepted : SourcesForm → List (List Update) → List ViewForm → Bool
 is_accepted ss work vs = not (is_some (setup_refusal (schemas_of ss) (setup_with ss vs))) && not (is_some (work_refusal (setup_with ss vs) (one_each work)))
 
--- The script of this setup and these transactions, with the names of its sources and views, and no sessions.
-abbrev pub named_script : SetupData → List (List Updates) → List Text → List Text → NamedScript
-named_script setup work sources views = record {
-  script = record { setup = setup; work = work; sessions = 0 };
-  labels = record { sources = sources; views = views; sessions = []; texts = [] };
+-- The names of sources, views and sessions, where no text is a value.
+abbrev pub labels_of : (sources views sessions : List Text) → Labels
+labels_of sources views sessions = record { sources = sources; views = views; sessions = sessions; texts = [] }
+
+-- The script of this setup and these transactions, with a session for each name of one, and with these events.
+abbrev pub named_script : SetupData → List (List Updates) → Labels → List Event → NamedScript
+named_script setup work labels events = record {
+  script = record { setup = setup; work = work; sessions = length labels.sessions };
+  labels = labels;
+  events = events;
 }
 
+-- The script with no sessions and no events.
 abbrev pub script_with : SourcesForm → List (List Update) → List ViewForm → NamedScript
-script_with ss work vs = named_script (setup_with ss vs) (one_each work) ss.names (map (λ v. v.name) vs)
+script_with ss work vs = named_script (setup_with ss vs) (one_each work) (labels_of ss.names (map (λ v. v.name) vs) []) []
 
--- The script of the sources with their updates, each a transaction of its own, and of the views, where names differ and nothing is refused.
+-- The script of the sources with their updates, each a transaction of its own, and of the views, where names differ and nothing is refused. Sessions and events come later.
 abbrev pub script_if : SourcesForm → List (List Update) → List ViewForm → Option NamedScript
 script_if ss work vs = if have_names ss vs && are_views_over (schemas_of ss) vs && is_accepted ss work vs then Some (script_with ss work vs) else None
 
@@ -91,9 +90,20 @@ script_after d sources ss = option_and_then (script_work d ss) (elements sources
 abbrev pub script_sources : Data → Data → Option NamedScript
 script_sources d sources = option_and_then (script_after d sources) (sources_in sources)
 
--- A script is an object with `sources`, `views`, and perhaps `sessions`, an empty list.
+-- The script of the sources and views of a document, with no sessions and no events.
+abbrev pub script_from_sources : Data → Option NamedScript
+script_from_sources d = option_and_then (script_sources d) (get (codes "sources") d)
+
+-- The script with these sessions and events.
+abbrev pub planned : NamedScript → PlanForm → NamedScript
+planned s plan = named_script s.script.setup s.script.work (labels_of s.labels.sources s.labels.views plan.sessions) plan.events
+
+abbrev pub script_plan : Data → NamedScript → Option NamedScript
+script_plan d s = option_map (planned s) (plan_in s.labels.sources s.labels.views d)
+
+-- A script is an object with `sources`, `views`, and perhaps `sessions` and `schedule`.
 abbrev pub script_in : Data → Option NamedScript
-script_in d = if is_object_of (is_member_of Document) d && is_empty_list (get (codes "sessions") d) then option_and_then (script_sources d) (get (codes "sources") d) else None
+script_in d = if is_object_of (is_member_of Document) d then option_and_then (script_plan d) (script_from_sources d) else None
 
 abbrev pub script_from : Option Data → Result NamedScript Refusal
 script_from None = Err Syntax

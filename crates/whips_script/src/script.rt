@@ -1,42 +1,46 @@
 //! A script.
 ghost use Rattle.std.specs.Prelude.{◌≡◌, ◌≢◌, ◌≤◌, true, false, IfOk, IfErr, OnOk, Some, None, Ok, is_some, map, length};
-ghost use Rattle.std.specs.Option.{option_map};
 ghost use Rattle.serde_json.specs.View.{view};
 ghost use Rattle.whips_setup.specs.Setups.{setup_of};
 ghost use Rattle.whips_setup.specs.Refusals.{setup_refusal, IsSetup};
 ghost use Rattle.whips_setup.specs.Workloads.{work_refusal, one_each, IsWorkload};
 ghost use Rattle.whips_script.specs.Refusals.{IsRefusalOf};
-ghost use Rattle.whips_script.specs.Script.{named_script, is_empty_list, initial_of, are_all_distinct, script_if, script_work, script_in, script_of};
+ghost use Rattle.whips_script.specs.Script.{labels_of, named_script, initial_of, are_all_distinct, script_if, script_work, script_from_sources, planned, script_in, script_of};
 
 use crate::Refusal;
 use crate::made::{MadeViews, initial_relations, make_views, relation_names, schemas_of};
 use serde_json::Value;
 use std::alloc::Global;
 use std::marker::Model;
+use whips_flow::Event;
 use whips_forms::{
-    ObjectForm, ReadErr, Sources, Text, are_distinct, elements, is_object_of, list_of, member,
-    parse, read_sources, read_work,
+    ObjectForm, ReadErr, Sources, Text, are_distinct, elements, is_object_of, member, parse,
+    read_sources, read_work,
 };
 use whips_rel::Update;
+use whips_schedule_forms::{PlanForm, read_plan};
 use whips_setup::{Setup, SetupErr, WorkErr, Workload};
 use whips_view_forms::{ViewForm, read_views};
 
-/// A script: sources with relations of number columns, their updates, and views.
+/// A script: sources with relations of number columns, their updates, views, sessions, and the events of its schedule.
 #[derive(Drop)]
 pub struct Script {
     sources: Vec<Text>,
     setup: Setup,
     work: Workload,
-    names: Vec<Text>,
+    views: Vec<Text>,
+    sessions: Vec<Text>,
+    events: Vec<Event>,
 }
 
 impl Model for Script {
-    ghost use Rattle.whips_script.specs.Script.{NamedScript, named_script};
+    ghost use Rattle.whips_script.specs.Script.{NamedScript, labels_of, named_script};
     ghost use Rattle.whips_setup.specs.Workloads.{IsWorkload};
 
     ghost Value = { NamedScript };
 
-    ghost view = { λ s. named_script s.setup s.work s.sources.items s.names.items };
+    ghost view = { λ s. named_script s.setup s.work
+        (labels_of s.sources.items s.views.items s.sessions.items) s.events.items };
 
     ghost invariant = { λ s. IsWorkload s.setup s.work };
 }
@@ -53,13 +57,30 @@ impl Script {
     pub fn views(&self) -> &[Text]
         ensures { result.now ≡ self.now.labels.views }
     {
-        &self.names
+        &self.views
     }
 
-    /// The setup and the transactions, with the names of the sources and of the views.
+    /// The names of its sessions.
+    pub fn sessions(&self) -> &[Text]
+        ensures { result.now ≡ self.now.labels.sessions }
+    {
+        &self.sessions
+    }
+
+    /// The script with these sessions and events.
+    fn with_plan(mut self, plan: PlanForm) -> Script
+        ensures { result ≡ planned self plan }
+    {
+        self.sessions = plan.sessions;
+        self.events = plan.events;
+        self
+    }
+
+    /// The setup, the transactions and the events, with the names of the sources, the views and the sessions.
     pub fn into_parts(self) -> ScriptParts
         ensures parts { self ≡ named_script result.setup result.work
-            result.sources.items result.views.items }
+            (labels_of result.sources.items result.views.items result.sessions.items)
+            result.events.items }
         ensures setup { IsSetup result.setup }
         ensures work { IsWorkload result.setup result.work }
     {
@@ -68,7 +89,9 @@ impl Script {
             sources: self.sources,
             setup: self.setup,
             work: self.work,
-            views: self.names,
+            views: self.views,
+            sessions: self.sessions,
+            events: self.events,
         }
     }
 }
@@ -84,6 +107,10 @@ pub struct ScriptParts {
     pub work: Workload,
     /// The names of the views.
     pub views: Vec<Text>,
+    /// The names of the sessions.
+    pub sessions: Vec<Text>,
+    /// The events of the schedule, in their order.
+    pub events: Vec<Event>,
 }
 
 /// Why bytes aren't read as a script.
@@ -148,7 +175,8 @@ fn check_names(sources: &[Text], relations: &[Text], views: &[Text]) -> Result<(
     Err(ReadErr::Unbuilt)
 }
 
-/// The script of these sources, updates and views, where names differ and nothing is refused.
+/// The script of these sources, updates and views, where names differ and nothing is refused, with no session and no
+/// event.
 fn make_script(
     alloc: Global,
     sources: Sources,
@@ -172,7 +200,9 @@ fn make_script(
         sources: sources.names,
         setup,
         work,
-        names: made.names,
+        views: made.names,
+        sessions: Vec::new(alloc),
+        events: Vec::new(alloc),
     })
 }
 
@@ -198,17 +228,16 @@ fn read_rest(
     make_script(alloc, sources, names, work, views)
 }
 
-/// Whether the member is missing, or an empty list.
-fn is_empty_list(member: Option<&Value>) -> bool
-    ensures { result ≡ is_empty_list (option_map (λ v. view v.now) member.entry) }
+/// The script that the sources of a document are, with the views, and with no session and no event.
+fn read_base(alloc: Global, document: &Value) -> Result<Script, ReadErr>
+    ensures ok { IfOk result (λ s. script_from_sources (view document.now) ≡ Some s) }
+    ensures refused { IfErr result (λ e. e ≢ ReadErr.NoMemory
+        → script_from_sources (view document.now) ≡ None) }
 {
-    match member {
-        None => true,
-        Some(list) => match list_of(list) {
-            Some([]) => true,
-            _ => false,
-        },
-    }
+    let list = member(document, "sources")?;
+    let sources = read_sources(alloc, list)?;
+    let items = elements(list)?;
+    read_rest(alloc, document, sources, items)
 }
 
 /// The script that a JSON value is.
@@ -216,13 +245,12 @@ fn read_value(alloc: Global, value: &Value) -> Result<Script, ReadErr>
     ensures ok { IfOk result (λ s. script_in (view value.now) ≡ Some s) }
     ensures refused { IfErr result (λ e. e ≢ ReadErr.NoMemory → script_in (view value.now) ≡ None) }
 {
-    if !(is_object_of(value, ObjectForm::Document) && is_empty_list(value.get("sessions"))) {
+    if !is_object_of(value, ObjectForm::Document) {
         return Err(ReadErr::Unbuilt);
     }
-    let list = member(value, "sources")?;
-    let sources = read_sources(alloc, list)?;
-    let items = elements(list)?;
-    read_rest(alloc, value, sources, items)
+    let script = read_base(alloc, value)?;
+    let plan = read_plan(alloc, script.sources(), script.views(), value)?;
+    Ok(script.with_plan(plan))
 }
 
 /// The script that the bytes are. A refusal is the one that they are by the definition of a script; want of memory may

@@ -109,8 +109,8 @@ pub fn read_views(
     value: &Value,
 ) -> Result<Vec<ViewForm>, ReadErr>
     requires { length relations.now ≤ 32 }
-    ensures ok { IfOk result (λ v. views_in relations.now homes.now (view value.now)
-        ≡ Some v.items) }
+    ensures ok { IfOk result (λ v. (views_in relations.now homes.now (view value.now)
+        ≡ Some v.items) × (length v.items ≤ 8)) }
     ensures refused { IfErr result (λ e. e ≢ ReadErr.NoMemory
         → views_in relations.now homes.now (view value.now) ≡ None) }
 {

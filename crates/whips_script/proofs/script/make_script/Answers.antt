@@ -1,8 +1,10 @@
-use Rattle.std.proofs.Common.{ap, ap₂, ◌∙◌, sym, refl, map, Vec, Some}
+use Rattle.std.proofs.Common.{ap, ap₂, ◌∙◌, sym, refl, map, List, Vec, Some, []}
 use Rattle.std.specs.declared.alloc.Global.{Global}
 use Rattle.std.proofs.lemmas.Result.{err_from_is_err_and}
+use Rattle.whips_flow.specs.declared.event.Event.{Event}
+use Rattle.whips_forms.specs.Json.{Text}
 use Rattle.whips_rel.specs.declared.update.Update.{Update}
-use Rattle.whips_script.specs.Script.{named_script, schemas_of, are_all_distinct}
+use Rattle.whips_script.specs.Script.{named_script, labels_of, schemas_of, are_all_distinct}
 use Rattle.whips_forms.specs.Relations.{SourcesForm, RelationForm}
 use Rattle.whips_script.proofs.Scripts.{views_refused, setup_refused, work_refused, script_ok}
 use Rattle.whips_script.proofs.script.make_script.Goals as goal
@@ -38,4 +40,6 @@ returns-clause-ok c =
     ∙ ap (are_all_distinct c.deref-2.result.now c.deref-3.result.now) (sym c.deref-4.ensures.value) ∙ c.in_ok-check_names.ensures.ok in
     script_ok c.args.sources c.args.sources work c.args.views.items c.in_ok-schemas.schemas.items refl columns c.in_ok-made.made.defs.items c.in_ok-made.made.slots.items c.in_ok-made.ensures.defs c.in_ok-made.ensures.slots c.in_ok-setup.setup c.in_ok-setup.ensures.ok.0
     c.args.names.items c.in_ok-made.made.names.items c.in_ok-work.work c.requires.names c.in_ok-made.ensures.names distinct c.in_ok-made.ensures.made c.in_ok-setup.ensures.ok.1 c.in_ok-work.ensures.ok.0 c.in_ok-work.ensures.ok.1.accepted
-    ∙ ap (λ (ss : SourcesForm). Some (named_script c.in_ok-setup.setup c.in_ok-work.work ss.names c.in_ok-made.made.names.items)) (sym c.sources.view_is)
+    ∙ ap (λ (ss : SourcesForm). Some (named_script c.in_ok-setup.setup c.in_ok-work.work (labels_of ss.names c.in_ok-made.made.names.items []) [])) (sym c.sources.view_is)
+    ∙ ap₂ (λ (sessions : List Text) (events : List Event). Some (named_script c.in_ok-setup.setup c.in_ok-work.work (labels_of c.sources.inside.names.items c.in_ok-made.made.names.items sessions) events))
+    (sym c.new.ensures.items) (sym c.new-2.ensures.items)
