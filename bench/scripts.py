@@ -6,6 +6,7 @@
 two      two sources of two relations with 4,096 rows each, 4,096 updates a source, and three joined views
 two_N    the same with N rows a relation and N updates a source, where N is 256, 512, 1024 or 2048
 fan      a small relation joined to a large one, so that an update of it changes about 47 rows
+listed   two, with 65,536 listed events of which 1,000 begin a scan
 """
 import json
 import os
@@ -62,10 +63,10 @@ STOCK = view("stock", ["items", "prices"], [["items.item", "prices.item"]], ["it
              where=[["items.bin", "<", 900]])
 
 
-def two(rows, has_texts=True):
+def two(rows, has_texts=True, seed=1):
     """Two sources of two relations with so many rows each, and as many updates a source. Without texts a customer's name is
     a number."""
-    pick = random.Random(1)
+    pick = random.Random(seed)
     keys = rows * 3 // 2
     first, second = Source("A", pick), Source("B", pick)
     first.relation("orders", columns("id", "item", "cust", "qty"), rows, keys,
@@ -90,12 +91,45 @@ def fan():
     return {"sources": [first.written(sold), second.written(moved)], "views": [LINES]}
 
 
-NAMES = [*(f"two_{size}" for size in SIZES), "two", "fan"]
+# how often each event is listed, but for scans
+WEIGHTS = {"commit A": 10, "commit B": 10, "integrate A": 20, "integrate B": 20, "answer A": 12, "answer B": 12, "manage": 40, "act": 18,
+           "rel": 16, "begin": 12, "change": 30, "publish": 12, "open": 1, "fetch": 6, "close": 0.5}
+
+
+def listed(has_texts=True):
+    """`two` with eight sessions and 65,536 events, one in 65 of which begins a scan until there are 1,000."""
+    made = two(4096, has_texts, 4)
+    made["sessions"] = [f"s{session}" for session in range(8)]
+    pick, events, scans = random.Random(5), [], 0
+    views = [view["name"] for view in made["views"]]
+    while len(events) < 65536:
+        if len(events) % 65 == 7 and scans < 1000:
+            scans += 1
+            events.append(f"scan s{pick.randrange(8)} {pick.choice(views)}")
+            continue
+        event = pick.choices(list(WEIGHTS), list(WEIGHTS.values()))[0]
+        if event in ("manage", "act") or event.startswith("answer"):
+            event += f" {pick.choice(views)}"
+        elif event in ("open", "close"):
+            event += f" s{pick.randrange(8)}"
+        elif event == "fetch":
+            event += f" s{pick.randrange(8)} {pick.choice([64, 512, 4096, 65536])}"
+        events.append(event)
+    made["schedule"] = {"events": events}
+    return made
+
+
+NAMES = [*(f"two_{size}" for size in SIZES), "two", "fan", "listed"]
 
 
 def script(name, has_texts=True):
     """The text of the script with this name."""
-    made = fan() if name == "fan" else two(int(name[4:] or 4096), has_texts)
+    if name == "fan":
+        made = fan()
+    elif name == "listed":
+        made = listed(has_texts)
+    else:
+        made = two(int(name[4:] or 4096), has_texts)
     return json.dumps(made, separators=(",", ":"))
 
 

@@ -9,7 +9,7 @@ use Rattle.whips_headline_laws.proofs.Meets.{every_run}
 use Rattle.whips_run.specs.Answer.{answer, answer_of, run_of_script, run_status, report_of, refusal_text}
 use Rattle.whips_run.specs.Outcome.{MeetsHeadline}
 
-pub script_answer : (bytes : List ℕ) (s : NamedScript) → script_of bytes ≡ Ok s → answer bytes ≡ (run_status (run_of_script s.script), report_of s)
+pub script_answer : (bytes : List ℕ) (s : NamedScript) → script_of bytes ≡ Ok s → answer bytes ≡ (run_status (run_of_script s), report_of s)
 unfolding answer
 script_answer bytes s is = ap answer_of is
 
@@ -30,7 +30,7 @@ module _ (bytes : List ℕ) (status : ℕ) (text : List ℕ) (is : answer bytes 
 
 -- the report of a valid script meets the headline
 pub meets : (bytes : List ℕ) (s : NamedScript) (old new : Option (List ℕ)) → script_of bytes ≡ Ok s → IsValidScript s.script → Appends old new (report_of s) → MeetsHeadline bytes old new
-meets bytes s old new is valid written = record { named = s; is = is; written = written; headline = every_run s.script valid (listed []) }
+meets bytes s old new is valid written = record { named = s; is = is; written = written; headline = every_run s.script valid (listed s.events) }
 
 -- a status of a whole run is neither that of a fault nor that of want of memory
 pub not_five : (status : ℕ) → (status ≡ 0) ⊎ (status ≡ 7) → status ≢ 5

@@ -3,10 +3,10 @@ use Rattle.std.proofs.Common.{◌≡◌, ℕ, ◌<◌, ◌≤◌, Bool, List, []
 use Rattle.std.specs.Prelude.{IfOk, IfErr, OnOk}
 use Rattle.std.specs.Result.{IsErrAnd}
 use Rattle.std.proofs.KnownBytes.{Appends-nil}
+use Rattle.whips_flow.specs.declared.event.Event.{Event}
 use Rattle.whips_states.specs.States.{Updates}
 use Rattle.whips_setup.specs.Setups.{SetupData}
 use Rattle.whips_script.specs.Script.{NamedScript, named_script}
-use Rattle.whips_core.specs.Cores.{script_with}
 use Rattle.whips_run.specs.Answer.{run_of_script, report_of}
 use Rattle.std.specs.Io.KnownBytes.{Appends}
 use Rattle.std.proofs.lemmas.List.{take-append-le, take_all}
@@ -18,30 +18,30 @@ use Rattle.whips_report.specs.declared.sink.RecordErr.{RecordErr}
 use Rattle.whips_report.specs.declared.sink.RecordErr.TheVariants.{NoMemory, Failed}
 use Rattle.whips_report.specs.Told.{Output, IsWritten, IsPartWritten, records_text}
 use Rattle.whips_report.specs.Laws.{records_join}
-use Rattle.whips_world.specs.Runs.{IsFirstPart}
+use Rattle.whips_world.specs.Runs.{IsFirstPart, scheduled}
 use Rattle.whips_run.specs.Written.{HasWritten}
 
-module _ (s : Script) (l : Labels) (old new : Output) where
+module _ (s : Script) (l : Labels) (es : List Event) (old new : Output) where
   abbrev lines : List Reported
-  lines = reported s (run_of s (listed []))
+  lines = reported s (run_of s (listed es))
 
-  pub whole_written : IsWritten l s.setup lines old new → Appends old.written new.written (report s l (listed []))
+  pub whole_written : IsWritten l s.setup lines old new → Appends old.written new.written (report s l (listed es))
   whole_written h = h.text s refl
 
   -- a first part of the text of a report's first records is one of the report
-  front : (n : ℕ) (part : List Reported) → IsFirstPart part lines → n ≤ length (records_text s l part) → take n (report s l (listed [])) ≡ take n (records_text s l part)
+  front : (n : ℕ) (part : List Reported) → IsFirstPart part lines → n ≤ length (records_text s l part) → take n (report s l (listed es)) ≡ take n (records_text s l part)
   front n part p le = ap (take n) (ap (records_text s l) p.1 ∙ records_join s l part p.0) ∙ take-append-le n (records_text s l part) (records_text s l p.0) le
 
-  long : (part : List Reported) → IsFirstPart part lines → length (records_text s l part) ≤ length (report s l (listed []))
+  long : (part : List Reported) → IsFirstPart part lines → length (records_text s l part) ≤ length (report s l (listed es))
   long part p = omega (arith, ap length (ap (records_text s l) p.1 ∙ records_join s l part p.0), length-append (records_text s l part) (records_text s l p.0))
 
-  pub part_told : (part : List Reported) → IsFirstPart part lines → IsWritten l s.setup part old new → (n : ℕ) × Appends old.written new.written (take n (report s l (listed [])))
+  pub part_told : (part : List Reported) → IsFirstPart part lines → IsWritten l s.setup part old new → (n : ℕ) × Appends old.written new.written (take n (report s l (listed es)))
   part_told part p h =
       let n = length (records_text s l part) in
       (n, subst (Appends old.written new.written) (sym (front n part p (omega arith) ∙ take_all n (records_text s l part) (omega arith))) (h.text s refl))
 
   pub part_failed : (part : List Reported) → IsFirstPart part lines → IsPartWritten l s.setup part old new
-      → (n : ℕ) × (n < length (report s l (listed []))) × Appends old.written new.written (take n (report s l (listed []))) × HasRisen old.faults new.faults
+      → (n : ℕ) × (n < length (report s l (listed es))) × Appends old.written new.written (take n (report s l (listed es))) × HasRisen old.faults new.faults
   part_failed part p h =
       let t = h.part s refl in
       (t.0, omega (arith, t.1, long part p), subst (Appends old.written new.written) (sym (front t.0 part p (omega (arith, t.1)))) t.2, h.risen)
@@ -62,12 +62,14 @@ want_memory text full (Ok b) old h = absurd h
 want_memory text full (Err e) old h = subst (λ e. HasWritten text full (Err e) old old) (sym h) (0, Appends-nil old.written)
 
 -- what is written of a setup and a workload is written of the script that they were taken from
-pub named_written : (n : NamedScript) (setup : SetupData) (work : List (List Updates)) (sources views : List Bytes) (l : Labels) (r : Result Bool RecordErr) (old new : Output) → n ≡ named_script setup work sources views
-    → l ≡ record { sources = sources; views = views; sessions = []; texts = [] }
-    → HasWritten (report (script_with setup work) l (listed [])) (run_of_script (script_with setup work)).is_full r old new → HasWritten (report_of n) (run_of_script n.script).is_full r old new
-named_written n setup work sources views l r old new named is h =
-    subst (λ (z : NamedScript). HasWritten (report_of z) (run_of_script z.script).is_full r old new) (sym named)
-    (subst (λ (z : Labels). HasWritten (report (script_with setup work) z (listed [])) (run_of_script (script_with setup work)).is_full r old new) is h)
+pub named_written : (n : NamedScript) (setup : SetupData) (work : List (List Updates)) (labels l : Labels) (es given : List Event) (count : ℕ) (r : Result Bool RecordErr) (old new : Output) → n ≡ named_script setup work labels es
+    → l ≡ labels → given ≡ es → count ≡ length labels.sessions
+    → HasWritten (report (scheduled setup work count) l (listed given)) (run_of (scheduled setup work count) (listed given)).is_full r old new → HasWritten (report_of n) (run_of_script n).is_full r old new
+named_written n setup work labels l es given count r old new named is same counted h =
+    subst (λ (z : NamedScript). HasWritten (report_of z) (run_of_script z).is_full r old new) (sym named)
+    (subst (λ (z : Labels). HasWritten (report (scheduled setup work (length labels.sessions)) z (listed es)) (run_of (scheduled setup work (length labels.sessions)) (listed es)).is_full r old new) is
+    (subst (λ es. HasWritten (report (scheduled setup work (length labels.sessions)) l (listed es)) (run_of (scheduled setup work (length labels.sessions)) (listed es)).is_full r old new) same
+    (subst (λ n. HasWritten (report (scheduled setup work n) l (listed given)) (run_of (scheduled setup work n) (listed given)).is_full r old new) counted h)))
 
 pub on_ok : {A E P : Type 0} (r : Result A E) → P → OnOk r P
 on_ok (Ok a) p = p

@@ -1,7 +1,6 @@
 -- What the program answers for a whole input.
 use Rattle.std.specs.Prelude.{ℕ, List, [], ◌∷◌, ◌++◌, codes, Result, Ok, Err, if◌then◌else◌}
 use Rattle.whips_runs.specs.World.{World}
-use Rattle.whips_facts.specs.Scripts.{Script}
 use Rattle.whips_reports.specs.Reported.{listed, run_of}
 use Rattle.whips_reports.specs.Lines.{report}
 use Rattle.whips_script.specs.declared.Refusal.{Refusal}
@@ -12,13 +11,13 @@ use Rattle.whips_script.specs.Script.{NamedScript, script_of}
 abbrev pub line : List ℕ → List ℕ
 line text = text ++ 10 ∷ []
 
--- The run of a script by the schedule that has no events: the first event that can be done again and again, until none is left or a view has too few slots.
-abbrev pub run_of_script : Script → World
-run_of_script s = run_of s (listed [])
+-- The run of a script: the events of its schedule in order, and then the first event that can be done again and again, until none is left or a view has too few slots.
+abbrev pub run_of_script : NamedScript → World
+run_of_script n = run_of n.script (listed n.events)
 
 -- The report of that run.
 abbrev pub report_of : NamedScript → List ℕ
-report_of n = report n.script n.labels (listed [])
+report_of n = report n.script n.labels (listed n.events)
 
 -- The status of a run to its end: 7 where a view had too few slots, which ended it.
 abbrev pub run_status : World → ℕ
@@ -31,7 +30,7 @@ refusal_text Unbuilt = line (codes "refused Unbuilt document")
 
 -- The status and the text for bytes that are a script, and for those that are refused.
 abbrev pub answer_of : Result NamedScript Refusal → ℕ × List ℕ
-answer_of (Ok n) = (run_status (run_of_script n.script), report_of n)
+answer_of (Ok n) = (run_status (run_of_script n), report_of n)
 answer_of (Err refusal) = (3, refusal_text refusal)
 
 -- The status and the text for a whole input.

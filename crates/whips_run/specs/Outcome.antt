@@ -50,4 +50,4 @@ pub record MeetsHeadline (bytes : List ℕ) (old new : Option (List ℕ)) : Type
   pub named : NamedScript
   pub is : script_of bytes ≡ Ok named
   pub written : Appends old new (report_of named)
-  pub headline : Headline named.script (reported named.script (run_of_script named.script))
+  pub headline : Headline named.script (reported named.script (run_of_script named))

@@ -25,7 +25,7 @@ fn refusal_text(refusal: Refusal) -> &'static str
 
 /// Runs the script, writes its report, and gives the status.
 fn answer_script<O: Sink>(alloc: Global, script: Script, output: &mut O) -> u8
-    ensures ended { result ≢ 5 → result ≢ 6 → (result ≡ run_status (run_of_script script.script))
+    ensures ended { result ≢ 5 → result ≢ 6 → (result ≡ run_status (run_of_script script))
         × Appends (O.written output.old) (O.written output.new) (report_of script) }
     ensures sink_failed { result ≡ 5 → (n : ℕ) × (n < length (report_of script))
         × Appends (O.written output.old) (O.written output.new) (take n (report_of script))

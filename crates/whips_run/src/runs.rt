@@ -8,9 +8,9 @@ ghost use Rattle.whips_io.specs.Counts.{HasRisen};
 ghost use Rattle.whips_setup.specs.Refusals.{IsSetup};
 ghost use Rattle.whips_setup.specs.Workloads.{IsWorkload};
 ghost use Rattle.whips_facts.specs.Values.{IsValidScript};
-ghost use Rattle.whips_core.specs.Cores.{AreFresh, script_with};
-ghost use Rattle.whips_world.specs.Runs.{TellsPart, TellsWhole};
-ghost use Rattle.whips_reports.specs.Reported.{listed};
+ghost use Rattle.whips_core.specs.Cores.{AreFresh};
+ghost use Rattle.whips_world.specs.Runs.{scheduled, TellsPart, TellsWhole};
+ghost use Rattle.whips_reports.specs.Reported.{listed, run_of};
 ghost use Rattle.whips_reports.specs.Lines.{report};
 ghost use Rattle.whips_report.specs.Told.{output_at};
 ghost use Rattle.whips_run.specs.Answer.{run_of_script, report_of};
@@ -25,103 +25,109 @@ use whips_report::{Labels, LineSink, RecordErr, RecordSink};
 use whips_script::{Script, ScriptParts};
 use whips_setup::{Setup, Workload};
 use whips_source::Held;
-use whips_world::run;
+use whips_world::{Schedule, run};
 
-/// Runs a setup over these sources, in plain memory. It answers whether a view had too few slots.
+/// Runs a setup over these sources by a schedule, in plain memory. It answers whether a view had too few slots.
 fn run_sources<K: RecordSink>(
     alloc: Global,
     setup: Setup,
     sources: Vec<SourceQueues<Held>>,
+    schedule: &Schedule,
     sink: &mut K,
 ) -> Result<bool, RecordErr>
     requires { AreFresh setup sources.items }
     ensures told { IfOk result (λ full. (work : List (List Updates)) → IsWorkload setup work
         → sources.items ≡ map_with_place (new_loaded_source setup) 0 work
         → TellsWhole K.told (record {
-          script = script_with setup work;
-          events = [];
+          script = scheduled setup work schedule.now.sessions;
+          events = schedule.now.events.now;
           sink = sink.old;
         }) sink.new full) }
     ensures memory { IfErr result (λ r. r ≡ RecordErr.NoMemory → (work : List (List Updates))
         → IsWorkload setup work
         → sources.items ≡ map_with_place (new_loaded_source setup) 0 work
         → TellsPart K.told (record {
-          script = script_with setup work;
-          events = [];
+          script = scheduled setup work schedule.now.sessions;
+          events = schedule.now.events.now;
           sink = sink.old;
         }) sink.new) }
     ensures failed { IfErr result (λ r. r ≡ RecordErr.Failed → (work : List (List Updates))
         → IsWorkload setup work
         → sources.items ≡ map_with_place (new_loaded_source setup) 0 work
         → TellsPart K.failed (record {
-          script = script_with setup work;
-          events = [];
+          script = scheduled setup work schedule.now.sessions;
+          events = schedule.now.events.now;
           sink = sink.old;
         }) sink.new) }
 {
     let store = Plain::make(alloc, &setup)?;
-    run(alloc, setup, sources, store, sink)
+    run(setup, sources, store, schedule, sink)
 }
 
-/// Runs a setup and a workload of it, in plain memory. It answers whether a view had too few slots.
+/// Runs a setup and a workload of it by a schedule, in plain memory. It answers whether a view had too few slots.
 fn run_work<K: RecordSink>(
     alloc: Global,
     setup: Setup,
     work: Workload,
+    schedule: &Schedule,
     sink: &mut K,
 ) -> Result<bool, RecordErr>
     requires setup { IsSetup setup }
     requires work { IsWorkload setup work }
     ensures told { IfOk result (λ full. TellsWhole K.told (record {
-      script = script_with setup work;
-      events = [];
+      script = scheduled setup work schedule.now.sessions;
+      events = schedule.now.events.now;
       sink = sink.old;
     }) sink.new full) }
     ensures memory { IfErr result (λ r. r ≡ RecordErr.NoMemory → TellsPart K.told (record {
-      script = script_with setup work;
-      events = [];
+      script = scheduled setup work schedule.now.sessions;
+      events = schedule.now.events.now;
       sink = sink.old;
     }) sink.new) }
     ensures failed { IfErr result (λ r. r ≡ RecordErr.Failed → TellsPart K.failed (record {
-      script = script_with setup work;
-      events = [];
+      script = scheduled setup work schedule.now.sessions;
+      events = schedule.now.events.now;
       sink = sink.old;
     }) sink.new) }
 {
     let sources = sources_of(alloc, &setup, work)?;
-    run_sources(alloc, setup, sources, sink)
+    run_sources(alloc, setup, sources, schedule, sink)
 }
 
-/// Runs a setup and a workload of it, and writes the report through the sink of lines.
+/// Runs a setup and a workload of it by a schedule, and writes the report through the sink of lines.
 fn run_lines<O: Sink>(
     alloc: Global,
     setup: Setup,
     work: Workload,
+    schedule: &Schedule,
     sink: &mut LineSink<O>,
 ) -> Result<bool, RecordErr>
     requires setup { IsSetup setup }
     requires work { IsWorkload setup work }
     requires same { sink.old.setup.now ≡ setup }
     ensures { (sink.new.output.ghost_name ≡ sink.old.output.ghost_name)
-        × HasWritten (report (script_with setup work) sink.old.labels.now (listed []))
-        (run_of_script (script_with setup work)).is_full result
+        × HasWritten (report (scheduled setup work schedule.now.sessions) sink.old.labels.now
+        (listed schedule.now.events.now))
+        (run_of (scheduled setup work schedule.now.sessions)
+        (listed schedule.now.events.now)).is_full result
         (output_at O.written O.faults sink.old.output.now)
         (output_at O.written O.faults sink.new.output.now) }
 {
-    run_work(alloc, setup, work, sink)
+    run_work(alloc, setup, work, schedule, sink)
 }
 
-/// A setup and a workload of it.
+/// A setup and a workload of it, with the allocator for their run.
 #[derive(Drop)]
 struct Job {
+    alloc: Global,
     setup: Setup,
     work: Workload,
 }
 
-/// Runs a setup and a workload of it, and writes the report with these names.
+/// Runs a setup and a workload of it by a schedule, and writes the report with these names.
 fn write_job<O: Sink>(
-    alloc: Global,
     job: Job,
+    schedule: &Schedule,
     labels: &Labels,
     setup: &Setup,
     output: &mut O,
@@ -129,13 +135,19 @@ fn write_job<O: Sink>(
     requires setup { IsSetup job.setup }
     requires work { IsWorkload job.setup job.work }
     requires same { setup.now ≡ job.setup }
-    ensures { HasWritten (report (script_with job.setup job.work) labels.now (listed []))
-        (run_of_script (script_with job.setup job.work)).is_full result
+    ensures { HasWritten (report (scheduled job.setup job.work schedule.now.sessions) labels.now
+        (listed schedule.now.events.now))
+        (run_of (scheduled job.setup job.work schedule.now.sessions)
+        (listed schedule.now.events.now)).is_full result
         (output_at O.written O.faults output.old) (output_at O.written O.faults output.new) }
 {
-    let Job { setup: own, work } = job;
+    let Job {
+        alloc,
+        setup: own,
+        work,
+    } = job;
     let mut sink = LineSink::new(output, labels, setup, alloc);
-    run_lines(alloc, own, work, &mut sink)
+    run_lines(alloc, own, work, schedule, &mut sink)
 }
 
 /// Runs the script and writes its report, a record at a time. It answers whether a view had too few slots.
@@ -144,7 +156,7 @@ pub(crate) fn write_report<O: Sink>(
     script: Script,
     output: &mut O,
 ) -> Result<bool, RecordErr>
-    ensures written { HasWritten (report_of script) (run_of_script script.script).is_full result
+    ensures written { HasWritten (report_of script) (run_of_script script).is_full result
         (output_at O.written O.faults output.old) (output_at O.written O.faults output.new) }
     ensures valid { OnOk result (IsValidScript script.script) }
 {
@@ -153,8 +165,15 @@ pub(crate) fn write_report<O: Sink>(
         setup,
         work,
         views,
+        sessions,
+        events,
     } = script.into_parts();
     let copy = setup.copy()?;
-    let labels = Labels::new(&sources, &views, &[], &[]);
-    write_job(alloc, Job { setup, work }, &labels, &copy, output)
+    let labels = Labels::new(&sources, &views, &sessions, &[]);
+    let schedule = Schedule {
+        sessions: sessions.len(),
+        events: &events,
+    };
+    let job = Job { alloc, setup, work };
+    write_job(job, &schedule, &labels, &copy, output)
 }

@@ -9,10 +9,6 @@ use whips_run::run;
 const ONE_ROW: &[u8] =
     br#"{"sources":[{"name":"A","relations":[{"name":"R","columns":[["a","number"],["b","number"]],"key":["a"],"rows":[[1,5]]}]}],"views":[{"name":"W","relations":["R"],"out":["R.a","R.b"]}]}"#;
 
-/// Two sources with a join, slots and a session, which isn't read yet.
-const WITH_SESSION: &[u8] =
-    br#"{"sources":[{"name":"A","relations":[{"name":"R","columns":[["a","number"],["b","number"]],"key":["a"],"rows":[]}],"updates":[]},{"name":"B","relations":[{"name":"S","columns":[["c","number"],["b","number"]],"key":["c"],"rows":[]}],"updates":[]}],"views":[{"name":"V","relations":["R","S"],"equal":[["R.b","S.b"]],"out":["R.a","S.c","R.b"],"slots":4}],"sessions":["s"]}"#;
-
 /// A source of the text in pieces of up to 100 bytes, whose call of this number fails.
 fn input(alloc: Global, text: &[u8], failing: u64) -> Result<MemSource, NoMemory> {
     let fails = Vec::from_slice(alloc, &[failing])?;
@@ -30,12 +26,13 @@ fn output(alloc: Global, failing: u64) -> Result<MemSink, NoMemory> {
 
 /// What fails: the read and the write of these numbers, from 1.
 #[derive(Clone, Copy)]
-struct Failing {
+pub(crate) struct Failing {
     read: u64,
     write: u64,
 }
 
-const NOTHING: Failing = Failing { read: 0, write: 0 };
+/// Nothing fails.
+pub(crate) const NOTHING: Failing = Failing { read: 0, write: 0 };
 
 /// The status in which the word ends on the text, and the sink with what was written.
 fn run_on(
@@ -52,7 +49,7 @@ fn run_on(
 }
 
 /// Whether the word ends in this status on the text, and has written this.
-fn ends_as(
+pub(crate) fn ends_as(
     alloc: Global,
     word: &str,
     text: &[u8],
@@ -70,10 +67,6 @@ const EDITED: &[u8] =
 /// Two sources with a join and slots.
 const JOINED: &[u8] =
     br#"{"sources":[{"name":"A","relations":[{"name":"R","columns":[["a","number"],["b","number"]],"key":["a"],"rows":[]}],"updates":[["insert","R",[1,5]]]},{"name":"B","relations":[{"name":"S","columns":[["c","number"],["b","number"]],"key":["c"],"rows":[]}],"updates":[["insert","S",[7,5]]]}],"views":[{"name":"V","relations":["R","S"],"equal":[["R.b","S.b"]],"out":["R.a","S.c","R.b"],"slots":4}],"sessions":[]}"#;
-
-/// An update that concerns no view, since its row doesn't meet the condition.
-const UNCONCERNED: &[u8] =
-    br#"{"sources":[{"name":"A","relations":[{"name":"R","columns":[["a","number"],["b","number"]],"key":["a"],"rows":[]}],"updates":[["insert","R",[1,50]]]},{"name":"B","relations":[{"name":"S","columns":[["c","number"],["b","number"]],"key":["c"],"rows":[]}],"updates":[]}],"views":[{"name":"V","relations":["R","S"],"equal":[["R.b","S.b"]],"where":[["R.b","<",10]],"out":["R.a","S.c","R.b"],"slots":4}],"sessions":[]}"#;
 
 /// A row comes into a view whose two slots are taken, once another has gone.
 const REUSED: &[u8] =
@@ -93,11 +86,6 @@ const REPORTS: &[(&[u8], u8, &[u8])] = &[
         ONE_ROW,
         0,
         b"version 0 cut A=0 rows W=1\nfinal A=0\nview W rows 1\nrow [1,5]\n",
-    ),
-    (
-        UNCONCERNED,
-        0,
-        b"version 0 cut A=0 B=0 rows V=0\nfinal A=1 B=0\nview V rows 0\n",
     ),
     (
         JOINED,
@@ -169,13 +157,12 @@ fn the_outside_fails(rt: HostRuntime) {
 fn bad_input_is_refused(rt: HostRuntime) {
     let syntax = b"refused Syntax document\n".as_slice();
     let unbuilt = b"refused Unbuilt document\n".as_slice();
-    let cases: [(&[u8], &[u8]); 6] = [
+    let cases: [(&[u8], &[u8]); 5] = [
         (b"", syntax),
         (br#"{"sources":[{"name":"A"#, syntax),
         (b"\"\xff\"", syntax),
         (b"{}", unbuilt),
         (br#"{"sources":[],"views":[]}"#, unbuilt),
-        (WITH_SESSION, unbuilt),
     ];
     for (text, wanted) in cases {
         let ended = ends_as(rt.alloc(), "run", text, NOTHING, (3, wanted));

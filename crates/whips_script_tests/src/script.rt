@@ -1,5 +1,6 @@
 //! Scripts that are read, and texts that are refused.
 use std::alloc::{AllocError, Global};
+use whips_flow::Event;
 use whips_rel::{Trans, Update};
 use whips_script::{Refusal, ScriptErr, ScriptParts, Text, read_script};
 
@@ -182,6 +183,101 @@ fn what_cannot_be_built_is_refused(rt: HostRuntime) {
             matches!(refused, Ok(true)),
             "rows {rows}, updates {updates}, out {out}"
         );
+    }
+}
+
+/// A script of one source and one view, with these members behind.
+fn script_and(alloc: Global, members: &str) -> Result<String, AllocError> {
+    let mut text = String::from_str(
+        alloc,
+        r#"{"sources":[{"name":"A","relations":[{"name":"R","columns":[["a","number"]],"key":["a"]}]}],"views":[{"name":"W","relations":["R"],"out":["R.a"]}],"#,
+    )?;
+    text.push_str(members)?;
+    text.push_str("}")?;
+    Ok(text)
+}
+
+/// Whether the events are one of each kind, in the order of the script below.
+fn are_all_kinds(events: &[Event]) -> bool {
+    let wanted = [
+        Event::Commit(0),
+        Event::Answer(0, 0),
+        Event::Integrate(0),
+        Event::Manage(0),
+        Event::Rel,
+        Event::Act(0),
+        Event::Begin,
+        Event::Change,
+        Event::Publish,
+        Event::SessionOpen(1),
+        Event::SessionScan(0, 0),
+        Event::SessionFetch(1, 65_536),
+        Event::SessionClose(0),
+    ];
+    events == wanted.as_slice()
+}
+
+/// Whether the bytes are a script of two sessions with an event of each kind.
+fn is_planned(alloc: Global, bytes: &[u8]) -> bool {
+    match read_script(alloc, bytes) {
+        Ok(script) => {
+            let parts = script.into_parts();
+            are_named(&parts.sessions, "s", "end2") & are_all_kinds(&parts.events)
+        }
+        Err(_) => false,
+    }
+}
+
+fn has_all_kinds(alloc: Global) -> Result<bool, AllocError> {
+    let text = script_and(
+        alloc,
+        r#""sessions":["s","end2"],"schedule":{"events":["commit A","answer A W","integrate A","manage W","rel","act W","begin","change","publish","open end2","scan s W","fetch end2 65536","close s"]}"#,
+    )?;
+    Ok(is_planned(alloc, text.as_bytes()))
+}
+
+#[test]
+fn sessions_and_events_are_read(rt: HostRuntime) {
+    assert!(rt; matches!(has_all_kinds(rt.alloc()), Ok(true)));
+}
+
+/// Whether the script with these members can't be built.
+fn is_unplanned(alloc: Global, members: &str) -> Result<bool, AllocError> {
+    let text = script_and(alloc, members)?;
+    Ok(is_refused(alloc, text.as_bytes(), Refusal::Unbuilt))
+}
+
+#[test]
+fn sessions_and_schedules_with_a_fault_are_refused(rt: HostRuntime) {
+    let cases = [
+        r#""sessions":["end"]"#,
+        r#""sessions":["s","s"]"#,
+        r#""sessions":["1s"]"#,
+        r#""sessions":["a","b","c","d","e","f","g","h","i"]"#,
+        r#""sessions":null"#,
+        r#""schedule":{}"#,
+        r#""schedule":[]"#,
+        r#""schedule":{"start":1,"steps":2}"#,
+        r#""schedule":{"events":[],"start":1}"#,
+        r#""schedule":{"events":["commit B"]}"#,
+        r#""schedule":{"events":["commit W"]}"#,
+        r#""schedule":{"events":["open s"]}"#,
+        r#""schedule":{"events":["stop"]}"#,
+        r#""schedule":{"events":[""]}"#,
+        r#""schedule":{"events":["rel "]}"#,
+        r#""schedule":{"events":["commit  A"]}"#,
+        r#""schedule":{"events":["answer A W W"]}"#,
+        r#""schedule":{"events":["Rel"]}"#,
+        r#""schedule":{"events":[7]}"#,
+        r#""sessions":["s"],"schedule":{"events":["fetch s 0"]}"#,
+        r#""sessions":["s"],"schedule":{"events":["fetch s 01"]}"#,
+        r#""sessions":["s"],"schedule":{"events":["fetch s +1"]}"#,
+        r#""sessions":["s"],"schedule":{"events":["fetch s 65537"]}"#,
+        r#""sessions":["s"],"schedule":{"events":["fetch s 99999999999999999999"]}"#,
+    ];
+    for members in cases {
+        let refused = is_unplanned(rt.alloc(), members);
+        assert!(rt; matches!(refused, Ok(true)), "members {members}");
     }
 }
 

@@ -5,7 +5,7 @@
 -- The idea: with as many turns as there is work the drain is at its end, so that more turns change nothing, and the turn that the event was may be left out.
 --
 -- One lemma carries it: `enough` (more turns than there is work change nothing).
-use Rattle.std.proofs.Common.{◌≡◌, ℕ, zero, suc, ◌+◌, ◌<◌, ◌≤◌, Bool, true, false, ◌∷◌, ◌++◌, Option, Some, None, cond, refl, sym, ap, ◌∙◌, arith, inl, inr}
+use Rattle.std.proofs.Common.{◌≡◌, ℕ, zero, suc, ◌+◌, ◌<◌, ◌≤◌, Bool, true, false, List, [], ◌∷◌, ◌++◌, Option, Some, None, cond, refl, sym, ap, ◌∙◌, arith, inl, inr}
 use Rattle.std.specs.Prelude.{map}
 use Rattle.whips_flow.specs.Facts.{Facts, view_places}
 use Rattle.whips_flow.specs.State.{Pipeline}
@@ -16,27 +16,33 @@ use Rattle.whips_lists.proofs.Options.{found_passes}
 use Rattle.whips_drain_laws.specs.Drain.{IsRoomy, HasAllManagers}
 use Rattle.whips_drain_laws.proofs.Falls.{falls}
 use Rattle.whips_runs.specs.Records.{skip, final, final_rows}
-use Rattle.whips_runs.specs.World.{World, is_allowed, after_event, after_turn, with_record, drained_world, finished_world, with_final_records}
+use Rattle.whips_runs.specs.World.{World, is_allowed, after_event, after_turn, with_record, after_listed_plan, drained_world, finished_world, with_final_records}
 use Rattle.whips_run_laws.proofs.Turns.{AtEnd, turn_step, drained_ends}
-use Rattle.whips_run_laws.proofs.Reaches.{enabled_allowed}
-
-chosen_second : {A : Type 0} (b : Bool) (x y : A) → b ≡ false → cond b x y ≡ y
-chosen_second true x y h = absurd (cc)
-chosen_second false x y h = refl
-
-chosen_first : {A : Type 0} (b : Bool) (x y : A) → b ≡ true → cond b x y ≡ x
-chosen_first true x y h = refl
-chosen_first false x y h = absurd (cc)
+use Rattle.whips_run_laws.proofs.Reaches.{enabled_allowed, chosen_first, chosen_second}
 
 module _ (f : Facts) where
   -- ---- one event
 
+  -- a turn of the schedule, by whether the run is full and the event allowed
+  pub turn_full : (place : ℕ) (e : Event) (w : World) → w.is_full ≡ true → after_turn f place e w ≡ w
+  turn_full place e w t = chosen_first w.is_full w (cond (is_allowed f w e) (after_event f e w) (with_record (skip place e) w)) t
+
+  pub turn_done : (place : ℕ) (e : Event) (w : World) → w.is_full ≡ false → is_allowed f w e ≡ true → after_turn f place e w ≡ after_event f e w
+  turn_done place e w off allowed =
+      chosen_second w.is_full w (cond (is_allowed f w e) (after_event f e w) (with_record (skip place e) w)) off ∙ chosen_first (is_allowed f w e) (after_event f e w) (with_record (skip place e) w) allowed
+
+  pub turn_skipped : (place : ℕ) (e : Event) (w : World) → w.is_full ≡ false → is_allowed f w e ≡ false → after_turn f place e w ≡ with_record (skip place e) w
+  turn_skipped place e w off not =
+      chosen_second w.is_full w (cond (is_allowed f w e) (after_event f e w) (with_record (skip place e) w)) off ∙ chosen_second (is_allowed f w e) (after_event f e w) (with_record (skip place e) w) not
+
+  -- a run that is full does no more events
+  pub plan_full : (place : ℕ) (es : List Event) (w : World) → w.is_full ≡ true → after_listed_plan f place es w ≡ w
+  plan_full place [] w t = refl
+  plan_full place (e ∷ es) w t = ap (after_listed_plan f (suc place) es) (turn_full place e w t) ∙ plan_full (suc place) es w t
+
   -- an event that is allowed moves the pipeline by a step
   pub event_steps : (w : World) (e : Event) → w.is_full ≡ false → is_allowed f w e ≡ true → (after_event f e w).pipeline ≡ step f w.pipeline e
-  event_steps w e off allowed =
-      let turn : after_turn f 0 e w ≡ after_event f e w =
-      chosen_second w.is_full w (cond (is_allowed f w e) (after_event f e w) (with_record (skip 0 e) w)) off ∙ chosen_first (is_allowed f w e) (after_event f e w) (with_record (skip 0 e) w) allowed in
-      ap (λ z. z.pipeline) (sym turn) ∙ turn_step f 0 e w off
+  event_steps w e off allowed = ap (λ z. z.pipeline) (sym (turn_done 0 e w off allowed)) ∙ turn_step f 0 e w off
 
   pub first_is_enabled : (p : Pipeline) (e : Event) → first_enabled f p ≡ Some e → is_enabled f p e ≡ true
   first_is_enabled p e found = found_passes (is_enabled f p) (pipeline_events f) e found

@@ -19,6 +19,14 @@ pub if_ok : {A E : Type 0} (r : Result A E) {P Q : Type 0} → OnOk r P → (P �
 if_ok (Ok a) h f = f h
 if_ok (Err x) h f = tt
 
+pub ok_both : {A E : Type 0} (r : Result A E) (P Q : Type 0) → OnOk r P → OnOk r Q → OnOk r (P × Q)
+ok_both (Ok a) P Q p q = (p, q)
+ok_both (Err x) P Q p q = tt
+
+pub ok_with : {A E : Type 0} (r : Result A E) (P : A → Type 0) (Q : Type 0) → IfOk r P → OnOk r Q → IfOk r (λ a. P a × Q)
+ok_with (Ok a) P Q p q = (p, q)
+ok_with (Err x) P Q p q = tt
+
 pub if_is_ok : {A E : Type 0} (r : Result A E) {P Q : A → Type 0} → IfOk r P → ((a : A) → P a → Q a) → IfOk r Q
 if_is_ok (Ok a) h f = f a h
 if_is_ok (Err x) h f = tt

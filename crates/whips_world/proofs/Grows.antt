@@ -1,11 +1,11 @@
 -- How the report of a run grows: each event adds lines behind those that are there, and those stay as they were.
 --
--- `event_grows`, `skip_grows`: an event that is allowed, and one that isn't, leave the report of before as a first part; `finished_grows`: so does all that is left of the run.
+-- `event_grows`, `skip_grows`: an event that is allowed, and one that isn't, leave the report of before as a first part; `finished_grows`, `rest_grows`: so does all that is left of the run, without events of the schedule and with these.
 --
 -- The idea: only the rows of a read depend on the cuts, and it is of a version that was printed before it. So cuts of later versions change no line.
 --
 -- One lemma carries it: `grows_by` (records and cuts that are put behind).
-use Rattle.std.proofs.Common.{◌≡◌, ℕ, ◌/◌, ◌<◌, Bool, true, false, List, [], ◌∷◌, ◌++◌, length, append-nil, append_assoc, Option, Some, None, cond, refl, sym, ap, ap₂, ◌∙◌}
+use Rattle.std.proofs.Common.{◌≡◌, ℕ, suc, ◌/◌, ◌<◌, Bool, true, false, List, [], ◌∷◌, ◌++◌, length, append-nil, append_assoc, Option, Some, None, cond, refl, sym, ap, ap₂, subst, ◌∙◌}
 use Rattle.std.specs.Prelude.{map, slice_get, slice_index_or}
 use Rattle.std.proofs.lemmas.List.{map-append}
 use Rattle.whips_flow.specs.Facts.{Shortage, view_places}
@@ -16,17 +16,18 @@ use Rattle.whips_flow.specs.declared.event.Event.{Event}
 use Rattle.whips_flow.specs.declared.event.Event.TheVariants.{Commit, Answer, Integrate, Manage, Rel, Act, Begin, Change, Publish, SessionOpen, SessionScan, SessionFetch, SessionClose}
 use Rattle.whips_runs.specs.Sessions.{Scan, scan_of, visited_scan}
 use Rattle.whips_runs.specs.Records.{RunRecord, version, skip, opened, more, read, expired, full, final, final_rows, fetch_record, version_record}
-use Rattle.whips_runs.specs.World.{World, phase_of, after_event, after_pipeline_event, after_fetch, with_record, drained_world, finished_world, with_final_records}
+use Rattle.whips_runs.specs.World.{World, phase_of, is_allowed, after_event, after_turn, after_listed_plan, after_pipeline_event, after_fetch, with_record, drained_world, finished_world, with_final_records}
 use Rattle.whips_facts.specs.Scripts.{Script, value_at, view_at}
 use Rattle.whips_facts.specs.ScriptFacts.{facts_of}
 use Rattle.whips_reports.specs.Reported.{rows_of, reported}
 use Rattle.whips_lists.proofs.ByPlace.{get_there}
 use Rattle.whips_headline_laws.specs.Headline.{printed_cuts}
 use Rattle.whips_headline_laws.proofs.Counts.{same_versions}
-use Rattle.whips_headline_laws.proofs.Told.{EachFrom, IsLine, Told, event_told}
+use Rattle.whips_headline_laws.proofs.Told.{EachFrom, IsLine, Told, event_told, skip_told}
 use Rattle.whips_headline_laws.proofs.Meets.{line_of, printed_append, index_front}
 use Rattle.whips_headline_laws.proofs.Along.{drained_keeps}
 use Rattle.whips_world.specs.Runs.{IsFirstPart}
+use Rattle.whips_world.proofs.Drains.{turn_full, turn_done, turn_skipped}
 
 -- ---- first parts
 
@@ -169,3 +170,33 @@ module _ (s : Script) where
       let d = drained_world (work (facts_of s) w.pipeline) (facts_of s) w in
       first_of_first (reported s w) (reported s d) (reported s (finished_world (facts_of s) w)) (drained_grows (work (facts_of s) w.pipeline) w h)
       (ended_grows d d.is_full (drained_told (work (facts_of s) w.pipeline) w h) refl)
+
+  -- ---- the schedule
+
+  -- after more events the run has told right what it told, and more
+  abbrev HasGrown : World → World → Type 0
+  HasGrown w z = Told (facts_of s) z × IsFirstPart (reported s w) (reported s z)
+
+  turn_grows : (place : ℕ) (e : Event) (w : World) → Told (facts_of s) w → HasGrown w (after_turn (facts_of s) place e w)
+  turn_grows place e w h = by w.is_full refl (is_allowed (facts_of s) w e) refl
+    where
+      by : (full : Bool) → w.is_full ≡ full → (allowed : Bool) → is_allowed (facts_of s) w e ≡ allowed → HasGrown w (after_turn (facts_of s) place e w)
+      by true t allowed q = subst (HasGrown w) (sym (turn_full (facts_of s) place e w t)) (h, first_itself (reported s w))
+      by false t true q = subst (HasGrown w) (sym (turn_done (facts_of s) place e w t q)) (event_told (facts_of s) w e t q h, event_grows w e h)
+      by false t false q = subst (HasGrown w) (sym (turn_skipped (facts_of s) place e w t q))
+          (skip_told (facts_of s) w place e t h, first_with (reported s w) _ (reported s (with_record (skip place e) w)) (skip_grows w place e h))
+
+  plan_grows : (place : ℕ) (es : List Event) (w : World) → Told (facts_of s) w → HasGrown w (after_listed_plan (facts_of s) place es w)
+  plan_grows place [] w h = (h, first_itself (reported s w))
+  plan_grows place (e ∷ es) w h =
+      let z = after_turn (facts_of s) place e w in
+      let turn = turn_grows place e w h in
+      let rest = plan_grows (suc place) es z turn.0 in
+      (rest.0, first_of_first (reported s w) (reported s z) (reported s (after_listed_plan (facts_of s) (suc place) es z)) turn.1 rest.1)
+
+  -- all that is left of the run, with these events of the schedule
+  pub rest_grows : (place : ℕ) (es : List Event) (w : World) → Told (facts_of s) w → IsFirstPart (reported s w) (reported s (finished_world (facts_of s) (after_listed_plan (facts_of s) place es w)))
+  rest_grows place es w h =
+      let z = after_listed_plan (facts_of s) place es w in
+      let plan = plan_grows place es w h in
+      first_of_first (reported s w) (reported s z) (reported s (finished_world (facts_of s) z)) plan.1 (finished_grows z plan.0)

@@ -4,3 +4,5 @@ mod Moves
 mod Ways
 pub mod Errors
 mod Starts
+mod Reading
+mod Turns

@@ -1,8 +1,10 @@
 -- What the core tells of its events is what the run reports of them.
 --
--- `event_reports`: what is told of an event is what the report grows by; `event_at`: the core is where the run is, after the event as before; `end_reports`: the rows of the store at the end are the views' values on all transactions.
+-- `event_reports`: what is told of an event is what the report grows by; `event_at`: the core is where the run is, after the event as before; `ends_are`: the rows of the store at the end are the views' values on all transactions.
 --
 -- The idea: by the theorem of the core the numbers of its pipeline are the machine's state, the store refuses what the machine has no slots for, and the rows of its views are their values at the cut.
+--
+-- Two lemmas carry it: `carries` (the theorem of the core, where the run is) and `version_is` (the line of a version).
 use Rattle.std.proofs.Common.{◌≡◌, ℕ, zero, suc, ◌+◌, ◌/◌, ◌<◌, Bool, true, false, ◌&&◌, List, [], ◌∷◌, ◌++◌, length, append-nil, Option, Some, None, cond, refl, sym, ap, ap₂, subst, ◌∙◌, arith}
 use Rattle.std.specs.Prelude.{map, find, is_some, slice_get, slice_index_or}
 use Rattle.std.specs.Option.{option_map}
@@ -26,7 +28,7 @@ use Rattle.whips_facts.specs.ScriptFacts.{facts_of}
 use Rattle.whips_store.specs.Stores.{ViewState, no_view}
 use Rattle.whips_store.specs.First.{store_at_first}
 use Rattle.whips_reports.specs.Reported.{reported}
-use Rattle.whips_stage_laws.proofs.Setups.{view_there}
+use Rattle.whips_stage_laws.proofs.Setups.{view_there, slotted_long}
 use Rattle.whips_writer_laws.specs.Needs.{AreViewsOf, full_of}
 use Rattle.whips_contents.specs.Contents.{LoadedPipeline, start_loaded}
 use Rattle.whips_contents.specs.Events.{begin_refusal, is_enabled_loaded, is_full_for, next_loaded, step_loaded, after_loaded}
@@ -36,6 +38,7 @@ use Rattle.whips_headline_laws.proofs.Counts.{same_versions}
 use Rattle.whips_headline_laws.proofs.Told.{event_told}
 use Rattle.whips_headline_laws.proofs.Meets.{line_of}
 use Rattle.whips_core_laws.specs.Core.{Carries}
+use Rattle.whips_core_laws.proofs.Calls.{after_more}
 use Rattle.whips_core_laws.proofs.Carried.{core_carries}
 use Rattle.whips_core_laws.proofs.Valid.{valid_script}
 use Rattle.whips_core.specs.Cores.{CoreData}
@@ -54,10 +57,6 @@ views_long [] [] h = refl
 views_long [] (v ∷ vs) h = absurd h
 views_long (w ∷ ws) [] h = absurd h
 views_long (w ∷ ws) (v ∷ vs) h = ap suc (views_long ws vs h.1)
-
-slotted_long : (slots : List ℕ) (k : ℕ) (views : List View) → length (map_with_place (slotted slots) k views) ≡ length views
-slotted_long slots k [] = refl
-slotted_long slots k (v ∷ views) = ap suc (slotted_long slots (suc k) views)
 
 module _ (s : Script) where
   counts_from : (slots : List ℕ) (k : ℕ) (cut : List ℕ) (views : List View) (vs : List ViewState) → length vs ≡ length views
@@ -80,8 +79,8 @@ module _ (s : Script) where
       (rows_from (suc k) n cuts vs (omega (arith, long)) (λ i lt. let next : k + suc i ≡ suc k + i = omega arith in at (suc i) (omega (arith, lt)) ∙ ap (λ x. value_at s (view_at s x) (whole_cut s)) next))
 
 module _ (s : Script) (l : LoadedPipeline) (p : Pipeline) (h : Carries s l p) where
-  store_long : length l.store.views ≡ length s.setup.views
-  store_long = views_long (slotted_views s) l.store.views h.store.views ∙ slotted_long s.setup.slots 0 s.setup.views
+  pub store_long : length l.store.views ≡ length s.setup.views
+  store_long = views_long (slotted_views s) l.store.views h.store.views ∙ slotted_long s
 
   -- the current version
   pub version_is : (cuts : List (List ℕ)) → version_line l ≡ line_of s cuts (version_record (facts_of s) p)
@@ -106,17 +105,12 @@ module _ (s : Script) (l : LoadedPipeline) (p : Pipeline) (h : Carries s l p) wh
 
 -- ---- one event
 
--- the pipeline after one event more
-after_more : (s : SetupData) (es : List Event) (l : LoadedPipeline) (e : Event) → after_loaded s l (es ++ e ∷ []) ≡ step_loaded s (after_loaded s l es) e
-after_more s [] l e = refl
-after_more s (d ∷ es) l e = after_more s es (step_loaded s l d) e
-
 first_ext : {A : Type 0} (test other : A → Bool) → ((a : A) → test a ≡ other a) → (xs : List A) → find test xs ≡ find other xs
 first_ext test other same [] = refl
 first_ext test other same (x ∷ xs) = ap₂ (λ b o. cond b (Some x) o) (same x) (first_ext test other same xs)
 
 pub slots_long : (s : Script) → length (facts_of s).slots ≡ length s.setup.views
-slots_long s = length-map (slotted_views s) (λ (v : SlottedView). v.slots) ∙ slotted_long s.setup.slots 0 s.setup.views
+slots_long s = length-map (slotted_views s) (λ (v : SlottedView). v.slots) ∙ slotted_long s
 
 -- a refusal that comes with the machine's shortage
 full_lines_of : (v : Shortage) → full_lines (full_of v) ≡ record { entry = full v; rows = [] } ∷ []

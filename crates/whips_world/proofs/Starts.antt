@@ -5,13 +5,14 @@ use Rattle.whips_lists.specs.Lists.{map_with_place}
 use Rattle.whips_states.specs.States.{Updates}
 use Rattle.whips_setup.specs.Setups.{SetupData}
 use Rattle.whips_setup.specs.Refusals.{IsSetup}
+use Rattle.whips_flow.specs.declared.event.Event.{Event}
 use Rattle.whips_facts.specs.Scripts.{Script}
 use Rattle.whips_store.specs.Stores.{StoreState}
 use Rattle.whips_store.specs.First.{store_at_first}
 use Rattle.whips_contents.specs.Contents.{LoadedSource, new_loaded_source}
 use Rattle.whips_core.specs.Pipelines.{started}
-use Rattle.whips_core.specs.Cores.{CoreData, AreFresh, script_with}
-use Rattle.whips_world.specs.Runs.{IsStart}
+use Rattle.whips_core.specs.Cores.{CoreData, AreFresh}
+use Rattle.whips_world.specs.Runs.{scheduled, IsStart}
 
 -- what each source of a workload has left is its transactions
 left_of : (s : SetupData) (k : ℕ) (work : List (List Updates)) → map (λ (z : LoadedSource). z.site.left) (map_with_place (new_loaded_source s) k work) ≡ work
@@ -22,22 +23,20 @@ counts_left : (s : SetupData) (k : ℕ) (work : List (List Updates)) → map (λ
 counts_left s k [] = refl
 counts_left s k (ts ∷ work) = ap (λ l. length ts ∷ l) (counts_left s (suc k) work)
 
-abbrev pub script_left : CoreData → Script
-script_left c = script_with c.setup (map (λ (z : LoadedSource). z.site.left) c.loaded.sources)
+abbrev pub script_left : CoreData → ℕ → Script
+script_left c sessions = scheduled c.setup (map (λ (z : LoadedSource). z.site.left) c.loaded.sources) sessions
 
 module _ (setup : SetupData) (sources : List LoadedSource) (store : StoreState) (c : CoreData) (made : c ≡ record { setup = setup; loaded = started setup sources store; stopped = false }) where
   -- the script of the core is that of the workload that its sources have
-  pub script_is : (work : List (List Updates)) → sources ≡ map_with_place (new_loaded_source setup) 0 work → script_left c ≡ script_with setup work
-  script_is work are = ap script_left made ∙ ap (script_with setup) (ap (map (λ (z : LoadedSource). z.site.left)) are ∙ left_of setup 0 work)
+  pub script_is : (sessions : ℕ) (work : List (List Updates)) → sources ≡ map_with_place (new_loaded_source setup) 0 work → script_left c sessions ≡ scheduled setup work sessions
+  script_is sessions work are = ap (λ d. script_left d sessions) made ∙ ap (λ w. scheduled setup w sessions) (ap (map (λ (z : LoadedSource). z.site.left)) are ∙ left_of setup 0 work)
 
-  pub starts : {K : Type 0} (k : K) (ts : List ℕ) → IsSetup setup → AreFresh setup sources → store ≡ store_at_first setup → ts ≡ map (λ (z : LoadedSource). length z.site.left) sources
-      → IsStart (record { script = script_left c; events = []; sink = k }) c k ts
-  starts k ts valid fresh first counts =
-      let script = script_with setup fresh.work in
-      subst (λ (s : Script). IsStart (record { script = s; events = []; sink = k }) c k ts) (sym (script_is fresh.work fresh.are)) (record {
+  pub starts : {K : Type 0} (k : K) (ts : List ℕ) (schedule : ℕ × List Event) → IsSetup setup → AreFresh setup sources → store ≡ store_at_first setup → ts ≡ map (λ (z : LoadedSource). length z.site.left) sources
+      → IsStart (record { script = script_left c schedule.0; events = schedule.1; sink = k }) c k ts
+  starts k ts schedule valid fresh first counts =
+      subst (λ (s : Script). IsStart (record { script = s; events = schedule.1; sink = k }) c k ts) (sym (script_is schedule.0 fresh.work fresh.are)) (record {
         valid = valid;
         is_work = fresh.is_work;
-        no_events = refl;
         setup = ap (λ (d : CoreData). d.setup) made;
         loaded = ap (λ (d : CoreData). d.loaded) made ∙ ap₂ (started setup) fresh.are first;
         runs = ap (λ (d : CoreData). d.stopped) made;

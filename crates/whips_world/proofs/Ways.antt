@@ -1,6 +1,6 @@
 -- The run on its way to the end.
 --
--- `way_begins`, `way_goes_on`, `way_drains`, `way_fills`: how a core comes on the way of its run, stays on it, and leaves it at the end or where a view is full. `way_told`, `way_tried`: what a sink was told on the way is a first part of the report.
+-- `run_begins`: the core where its run starts. `way_goes_on`, `way_drains`, `way_fills`: how it stays on the way of its run, and leaves it at the end or where a view is full. `way_told`, `way_tried`: what a sink was told on the way is a first part of the report.
 use Rattle.std.proofs.Common.{◌≡◌, ℕ, ◌<◌, Bool, true, false, not, List, [], ◌∷◌, ◌++◌, length, append-nil, append_assoc, Option, Some, None, cond, refl, sym, ap, subst, ◌∙◌, arith, inl, inr}
 use Rattle.std.specs.Prelude.{map, find, is_some}
 use Rattle.std.proofs.lemmas.List.{length-map, length-replicate}
@@ -11,13 +11,13 @@ use Rattle.whips_flow.specs.Progress.{is_enabled, is_done, step, after, next, sh
 use Rattle.whips_flow.specs.Work.{work}
 use Rattle.whips_flow.specs.declared.event.Event.{Event}
 use Rattle.whips_drain_laws.specs.Drain.{HasAllManagers}
-use Rattle.whips_drain_laws.proofs.Falls.{next_shaped}
 use Rattle.whips_runs.specs.Records.{final, final_rows}
 use Rattle.whips_runs.specs.World.{World, after_event, finished_world, with_final_records, start_world, after_listed_plan}
 use Rattle.whips_run_laws.proofs.Reaches.{enabled_allowed}
 use Rattle.whips_states.specs.States.{Updates}
 use Rattle.whips_setup.specs.Setups.{SetupData}
 use Rattle.whips_facts.specs.ScriptFacts.{facts_of}
+use Rattle.whips_facts_laws.proofs.Ends.{step_shaped, after_shaped}
 use Rattle.whips_facts_laws.proofs.Premises.{roomy}
 use Rattle.whips_reports.specs.Reported.{Reported, reported}
 use Rattle.whips_contents.specs.Events.{is_enabled_loaded, is_full_for, step_loaded}
@@ -30,26 +30,15 @@ use Rattle.whips_core.specs.Cores.{CoreData}
 use Rattle.whips_world.specs.Lines.{version_line, event_lines, end_lines}
 use Rattle.whips_report.specs.Told.{Telling, TellsOn, FailsLater}
 use Rattle.whips_world.specs.Runs.{IsFirstPart, Start, whole, IsAt, IsStart, IsOnWay, IsDrained, TellsPart, TellsWhole}
-use Rattle.whips_world.proofs.Grows.{finished_grows, final_grows}
+use Rattle.whips_world.proofs.Grows.{finished_grows, final_grows, rest_grows}
 use Rattle.whips_world.proofs.Drains.{first_is_enabled, step_falls, event_steps, finished_next, finished_here}
 use Rattle.whips_world.proofs.Moves.{carries, enabled_is, first_is, event_reports, event_full, event_at, next_carries, version_is, ends_are, slots_long}
 
 -- ---- managers
 
-step_shaped : (f : Facts) (p : Pipeline) (e : Event) → HasAllManagers f p → HasAllManagers f (step f p e)
-step_shaped f p e h = one (is_done f p e)
-  where
-    one : (b : Bool) → HasAllManagers f (cond b (next f p e) p)
-    one true = next_shaped f p e h
-    one false = h
-
-shaped_after : (f : Facts) (es : List Event) (p : Pipeline) → HasAllManagers f p → HasAllManagers f (after f p es)
-shaped_after f [] p h = h
-shaped_after f (e ∷ es) p h = shaped_after f es (step f p e) (step_shaped f p e h)
-
 module _ {K : Type 0} (told : Telling K) (a : Start K) (c : CoreData) (k : K) (w : World) (h : IsAt told a c k w) where
   shaped : HasAllManagers (facts_of a.script) w.pipeline
-  shaped = subst (HasAllManagers (facts_of a.script)) (sym h.pipeline) (shaped_after (facts_of a.script) h.events (start (facts_of a.script)) (length-replicate (length (facts_of a.script).slots) _))
+  shaped = subst (HasAllManagers (facts_of a.script)) (sym h.pipeline) (after_shaped (facts_of a.script) h.events (start (facts_of a.script)) (length-replicate (length (facts_of a.script).slots) _))
 
   -- the first event of the core is the first of the machine
   pub first_found : (o : Option Event) → o ≡ find (is_enabled_loaded c.loaded) (pipeline_events (facts_of a.script)) → first_enabled (facts_of a.script) w.pipeline ≡ o
@@ -87,30 +76,25 @@ module _ {K : Type 0} (told : Telling K) (on : TellsOn told) (a : Start K) where
       let here : Carries a.script c.loaded (start f) = subst (λ l. Carries a.script l (start f)) (sym h.loaded) (core_carries a.script h.valid h.is_work []) in
       let same : version_line c.loaded ∷ [] ≡ reported a.script (start_world f) = ap (λ r. r ∷ []) (version_is a.script c.loaded (start f) here (version_cuts (start f))) in
       subst (λ xs. IsFirstPart xs (reported a.script (whole a))) (sym same)
-      (subst (λ es. IsFirstPart (reported a.script (start_world f)) (reported a.script (finished_world f (after_listed_plan f 1 es (start_world f))))) (sym h.no_events) (finished_grows a.script (start_world f) (start_told f)))
+      (rest_grows a.script 1 a.events (start_world f) (start_told f))
 
   pub begin_tried : (failed : Telling K) (c : CoreData) (k l : K) (ts : List ℕ) → IsStart a c k ts → failed k l (version_line c.loaded ∷ []) → TellsPart failed a l
   begin_tried failed c k l ts h lines = (version_line c.loaded ∷ [], begin_part c k ts h, subst (λ z. failed z l (version_line c.loaded ∷ [])) h.sink lines)
 
-  pub way_begins : (c : CoreData) (k l : K) → (ts : List ℕ) → IsStart a c k ts → told k l (version_line c.loaded ∷ []) → IsOnWay told a c l
-  way_begins c k l ts h lines =
+  pub run_begins : (c : CoreData) (k l : K) → (ts : List ℕ) → IsStart a c k ts → told k l (version_line c.loaded ∷ []) → IsAt told a c l (start_world (facts_of a.script))
+  run_begins c k l ts h lines =
       let f = facts_of a.script in
       let here : Carries a.script c.loaded (start f) = subst (λ l. Carries a.script l (start f)) (sym h.loaded) (core_carries a.script h.valid h.is_work []) in
       let same : version_line c.loaded ∷ [] ≡ reported a.script (start_world f) = ap (λ r. r ∷ []) (version_is a.script c.loaded (start f) here (version_cuts (start f))) in
       record {
-        run = start_world f;
-        at = record {
-          valid = h.valid;
-          is_work = h.is_work;
-          setup = h.setup;
-          events = [];
-          loaded = h.loaded;
-          pipeline = refl;
-          kept = start_told f;
-          reports = subst (told a.sink l) same (subst (λ z. told z l (version_line c.loaded ∷ [])) h.sink lines);
-        };
-        goes_on = refl;
-        ends = ap (λ es. finished_world f (after_listed_plan f 1 es (start_world f))) (sym h.no_events);
+        valid = h.valid;
+        is_work = h.is_work;
+        setup = h.setup;
+        events = [];
+        loaded = h.loaded;
+        pipeline = refl;
+        kept = start_told f;
+        reports = subst (told a.sink l) same (subst (λ z. told z l (version_line c.loaded ∷ [])) h.sink lines);
       }
 
   module _ (c : CoreData) (k : K) (h : IsOnWay told a c k) where

@@ -1,18 +1,22 @@
 -- A run: where it is, and how it ends.
-use Rattle.std.specs.Prelude.{◌≡◌, ℕ, Bool, false, List, [], ◌++◌, length, map, None}
+use Rattle.std.specs.Prelude.{◌≡◌, ℕ, suc, Bool, true, false, List, [], ◌++◌, length, map, None}
 use Rattle.whips_flow.specs.State.{start}
 use Rattle.whips_flow.specs.Progress.{after, first_enabled}
 use Rattle.whips_flow.specs.declared.event.Event.{Event}
-use Rattle.whips_runs.specs.World.{World, finished_world, with_final_records}
+use Rattle.whips_runs.specs.World.{World, start_world, after_listed_plan, finished_world, with_final_records}
 use Rattle.whips_facts.specs.Scripts.{Script}
 use Rattle.whips_facts.specs.ScriptFacts.{facts_of}
 use Rattle.whips_reports.specs.Reported.{Reported, reported, listed, run_of}
 use Rattle.whips_report.specs.Told.{Telling}
+use Rattle.whips_states.specs.States.{Updates}
+use Rattle.whips_setup.specs.Setups.{SetupData}
 use Rattle.whips_setup.specs.Refusals.{IsSetup}
 use Rattle.whips_setup.specs.Workloads.{IsWorkload}
 use Rattle.whips_headline_laws.proofs.Told.{Told}
 use Rattle.whips_core_laws.specs.Core.{loaded_after}
 use Rattle.whips_core.specs.Cores.{CoreData}
+use Rattle.whips_world.specs.Readers.{AreReaders}
+use Rattle.whips_world.specs.declared.readers.Reader.{Reader}
 
 -- The first elements of the list, and no more.
 abbrev pub IsFirstPart : {A : Type 0} → List A → List A → Type 0
@@ -23,6 +27,10 @@ pub record Start (K : Type 0) : Type 0 where
   pub script : Script
   pub events : List Event
   pub sink : K
+
+-- The script of a setup and a workload, with so many reader sessions.
+abbrev pub scheduled : SetupData → List (List Updates) → ℕ → Script
+scheduled setup work sessions = record { setup = setup; work = work; sessions = sessions }
 
 -- The run to its end.
 abbrev pub whole : {K : Type 0} → Start K → World
@@ -54,6 +62,36 @@ pub record IsDrained {K : Type 0} (told : Telling K) (a : Start K) (c : CoreData
   pub ends : with_final_records (facts_of a.script) run ≡ whole a
   pub rests : is_full ≡ false → first_enabled (facts_of a.script) run.pipeline ≡ None
 
+-- Where the code of a run is: its core, its readers, and the sink.
+pub record Moment (K : Type 0) : Type 0 where
+  pub core : CoreData
+  pub readers : List Reader
+  pub sink : K
+
+-- Some run that isn't full is where the core is, its sessions are those of the readers, and it ends as the whole one does once it has done these events, the first of them at this place of the schedule, and has drained.
+pub record IsOnPlan {K : Type 0} (told : Telling K) (a : Start K) (m : Moment K) (place : ℕ) (rest : List Event) : Type 0 where
+  pub run : World
+  pub at : IsAt told a m.core m.sink run
+  pub readers : AreReaders m.core.loaded.store m.readers run.sessions
+  pub goes_on : run.is_full ≡ false
+  pub ends : finished_world (facts_of a.script) (after_listed_plan (facts_of a.script) place rest run) ≡ whole a
+
+-- The run has done the event at this place of the schedule: a view was full for it, or the events behind it are left.
+abbrev pub IsTurned : {K : Type 0} → Telling K → Start K → Moment K → ℕ × List Event → Bool → Type 0
+IsTurned told a m turn true = IsDrained told a m.core m.sink true
+IsTurned told a m turn false = IsOnPlan told a m (suc turn.0) turn.1
+
+-- The run has done all events of the schedule, unless a view was full for one.
+abbrev pub IsPlayed : {K : Type 0} → Telling K → Start K → CoreData → K → Bool → Type 0
+IsPlayed told a c k true = IsDrained told a c k true
+IsPlayed told a c k false = IsOnWay told a c k
+
+-- The sink was told version 0 and no event is done, and these are the number of sessions and the events of the schedule.
+pub record IsBegun {K : Type 0} (told : Telling K) (a : Start K) (c : CoreData) (k : K) (schedule : ℕ × List Event) : Type 0 where
+  pub at : IsAt told a c k (start_world (facts_of a.script))
+  pub sessions : schedule.0 ≡ a.script.sessions
+  pub events : schedule.1 ≡ a.events
+
 -- The sink was told a first part of the report.
 abbrev pub TellsPart : {K : Type 0} → Telling K → Start K → K → Type 0
 TellsPart told a k = (lines : List Reported) × IsFirstPart lines (reported a.script (whole a)) × told a.sink k lines
@@ -62,11 +100,10 @@ TellsPart told a k = (lines : List Reported) × IsFirstPart lines (reported a.sc
 abbrev pub TellsWhole : {K : Type 0} → Telling K → Start K → K → Bool → Type 0
 TellsWhole told a k is_full = told a.sink k (reported a.script (whole a)) × ((whole a).is_full ≡ is_full)
 
--- The core is that of a valid script before its first event, these are the numbers of all its transactions, and the schedule has no events.
+-- The core is that of a valid script before its first event, and these are the numbers of all its transactions.
 pub record IsStart {K : Type 0} (a : Start K) (c : CoreData) (k : K) (transactions : List ℕ) : Type 0 where
   pub valid : IsSetup a.script.setup
   pub is_work : IsWorkload a.script.setup a.script.work
-  pub no_events : a.events ≡ []
   pub setup : c.setup ≡ a.script.setup
   pub loaded : c.loaded ≡ loaded_after a.script []
   pub runs : c.stopped ≡ false

@@ -13,7 +13,7 @@ use whips_source::Site;
 use whips_store::{Store, StoreErr};
 
 /// Does an event that can be done, and tells what it brought. It answers whether a view was full for it.
-fn do_event<T: Site, S: Store, K: RecordSink>(
+pub(crate) fn do_event<T: Site, S: Store, K: RecordSink>(
     alloc: Global,
     core: &mut Core<T, S>,
     e: &Event,

@@ -1,8 +1,12 @@
-//! The run of a script: the core's events in order, and the records of what they brought, told one at a time.
+//! The run of a script: the events of its schedule and then those that drain it, of the core and of reader sessions, and
+//! the records of what they brought, told one at a time.
 #![tactic(auto)]
 
 mod events;
 mod lines;
+mod readers;
 mod runs;
+mod schedule;
 
 pub use runs::run;
+pub use schedule::Schedule;

@@ -5,11 +5,12 @@ ghost use Rattle.whips_states.specs.States.{Updates};
 ghost use Rattle.whips_setup.specs.Workloads.{IsWorkload};
 ghost use Rattle.whips_store.specs.First.{store_at_first};
 ghost use Rattle.whips_contents.specs.Contents.{new_loaded_source};
-ghost use Rattle.whips_core.specs.Cores.{AreFresh, script_with};
-ghost use Rattle.whips_world.specs.Runs.{Start, IsStart, TellsPart, TellsWhole};
+ghost use Rattle.whips_core.specs.Cores.{AreFresh};
+ghost use Rattle.whips_world.specs.Runs.{Start, scheduled, IsStart, TellsPart, TellsWhole};
 
 use crate::events::drain;
 use crate::lines::{tell_end, tell_version};
+use crate::schedule::{Schedule, play};
 use std::alloc::Global;
 use whips_core::{Core, SourceQueues};
 use whips_rel::NoMemory;
@@ -32,20 +33,26 @@ fn transactions_left<T: Site>(
     Ok(counts)
 }
 
-/// The run of a core before its first event, to its end. It answers whether it ended full.
+/// The run of a core before its first event, by a schedule and then to its end. It answers whether it ended full.
 fn run_on<T: Site, S: Store, K: RecordSink>(
     alloc: Global,
     core: &mut Core<T, S>,
+    schedule: &Schedule,
     transactions: &[u64],
     sink: &mut K,
 ) -> Result<bool, RecordErr>
     ghost at: { Start K }
-    requires { IsStart at core.old sink.old transactions.now }
+    requires start { IsStart at core.old sink.old transactions.now }
+    requires sessions { schedule.now.sessions ≡ at.script.sessions }
+    requires events { schedule.now.events.now ≡ at.events }
     ensures told { IfOk result (λ full. TellsWhole K.told at sink.new full) }
     ensures memory { IfErr result (λ r. r ≡ RecordErr.NoMemory → TellsPart K.told at sink.new) }
     ensures failed { IfErr result (λ r. r ≡ RecordErr.Failed → TellsPart K.failed at sink.new) }
 {
     tell_version(alloc, core, sink)?;
+    if play(alloc, core, schedule, sink)? {
+        return Ok(true);
+    }
     if drain(alloc, core, sink)? {
         return Ok(true);
     }
@@ -53,15 +60,16 @@ fn run_on<T: Site, S: Store, K: RecordSink>(
     Ok(false)
 }
 
-/// Runs the script of this setup and the workload that the sources have, without sessions and by an empty schedule:
-/// the first event that can be done again and again, until none is left or a view has too few slots. The sink is told
-/// the records of the run, one at a time. It answers whether a view had too few slots, which ended the run. Where it
-/// fails, the sink was told a first part of these records.
+/// Runs the script of this setup, the workload that the sources have, and the sessions of the schedule: first the events
+/// of the schedule in order, where one that can't be done is skipped, and then the first event that can be done again and
+/// again, until none is left or a view has too few slots. The sink is told the records of the run, one at a time. It
+/// answers whether a view had too few slots, which ended the run. Where it fails, the sink was told a first part of these
+/// records.
 pub fn run<T: Site + Drop, S: Store + Drop, K: RecordSink>(
-    alloc: Global,
     setup: Setup,
     sources: Vec<SourceQueues<T>>,
     store: S,
+    schedule: &Schedule,
     sink: &mut K,
 ) -> Result<bool, RecordErr>
     requires fresh { AreFresh setup sources.items }
@@ -69,28 +77,29 @@ pub fn run<T: Site + Drop, S: Store + Drop, K: RecordSink>(
     ensures told { IfOk result (λ full. (work : List (List Updates)) → IsWorkload setup work
         → sources.items ≡ map_with_place (new_loaded_source setup) 0 work
         → TellsWhole K.told (record {
-          script = script_with setup work;
-          events = [];
+          script = scheduled setup work schedule.now.sessions;
+          events = schedule.now.events.now;
           sink = sink.old;
         }) sink.new full) }
     ensures memory { IfErr result (λ r. r ≡ RecordErr.NoMemory → (work : List (List Updates))
         → IsWorkload setup work
         → sources.items ≡ map_with_place (new_loaded_source setup) 0 work
         → TellsPart K.told (record {
-          script = script_with setup work;
-          events = [];
+          script = scheduled setup work schedule.now.sessions;
+          events = schedule.now.events.now;
           sink = sink.old;
         }) sink.new) }
     ensures failed { IfErr result (λ r. r ≡ RecordErr.Failed → (work : List (List Updates))
         → IsWorkload setup work
         → sources.items ≡ map_with_place (new_loaded_source setup) 0 work
         → TellsPart K.failed (record {
-          script = script_with setup work;
-          events = [];
+          script = scheduled setup work schedule.now.sessions;
+          events = schedule.now.events.now;
           sink = sink.old;
         }) sink.new) }
 {
+    let alloc = *sources.allocator();
     let counts = transactions_left(alloc, &sources)?;
     let mut core = Core::new(alloc, setup, sources, store)?;
-    run_on(alloc, &mut core, &counts, sink)
+    run_on(alloc, &mut core, schedule, &counts, sink)
 }

@@ -9,17 +9,17 @@ use Rattle.whips_run.proofs.answers.answer_to.Goals as goal
 pub returns-in-Ok-clause-ended : goal.returns-in-Ok-clause-ended
 returns-in-Ok-clause-ended g c = λ no_fault no_want.
     let s = c.in-Ok.script in
-    ends c.args.bytes.items (run_status (run_of_script s.script)) (report_of s) (script_answer c.args.bytes.items s (ap script_of (sym c.deref.ensures.value) ∙ c.in-Ok.ensures.ok)) _ _ c.answer_script.result (c.answer_script.ensures.ended no_fault no_want)
+    ends c.args.bytes.items (run_status (run_of_script s)) (report_of s) (script_answer c.args.bytes.items s (ap script_of (sym c.deref.ensures.value) ∙ c.in-Ok.ensures.ok)) _ _ c.answer_script.result (c.answer_script.ensures.ended no_fault no_want)
 
 pub returns-in-Ok-clause-sink_failed : goal.returns-in-Ok-clause-sink_failed
 returns-in-Ok-clause-sink_failed g c = λ is_fault.
     let s = c.in-Ok.script in
-    fails c.args.bytes.items (run_status (run_of_script s.script)) (report_of s) (script_answer c.args.bytes.items s (ap script_of (sym c.deref.ensures.value) ∙ c.in-Ok.ensures.ok)) _ _ (HasRisen (g.O.Sink.faults c.args.output.now) (g.O.Sink.faults c.answer_script.new.output)) (c.answer_script.ensures.sink_failed is_fault)
+    fails c.args.bytes.items (run_status (run_of_script s)) (report_of s) (script_answer c.args.bytes.items s (ap script_of (sym c.deref.ensures.value) ∙ c.in-Ok.ensures.ok)) _ _ (HasRisen (g.O.Sink.faults c.args.output.now) (g.O.Sink.faults c.answer_script.new.output)) (c.answer_script.ensures.sink_failed is_fault)
 
 pub returns-in-Ok-clause-no_memory : goal.returns-in-Ok-clause-no_memory
 returns-in-Ok-clause-no_memory g c = λ want.
     let s = c.in-Ok.script in
-    stops c.args.bytes.items (run_status (run_of_script s.script)) (report_of s) (script_answer c.args.bytes.items s (ap script_of (sym c.deref.ensures.value) ∙ c.in-Ok.ensures.ok)) _ _ (c.answer_script.ensures.no_memory want)
+    stops c.args.bytes.items (run_status (run_of_script s)) (report_of s) (script_answer c.args.bytes.items s (ap script_of (sym c.deref.ensures.value) ∙ c.in-Ok.ensures.ok)) _ _ (c.answer_script.ensures.no_memory want)
 
 pub returns-in-Ok-clause-headline : goal.returns-in-Ok-clause-headline
 returns-in-Ok-clause-headline g c = λ done.

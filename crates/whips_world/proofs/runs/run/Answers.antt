@@ -23,9 +23,12 @@ run_on-requires g c = λ κs lives. (
       lives.1.1.0,
       (
         lives.1.1.1,
-        starts c.args.setup c.args.sources.items (g.S.Store.state c.args.store) c.in_ok-core.core c.in_ok-core.ensures c.args.sink.now c.deref-2.result.now
-            (subst IsSetup c.setup.view_is c.setup.invariant) c.requires.fresh c.requires.store
-            (c.deref-2.ensures.value ∙ (c.in_ok-counts.ensures ∙ ap (map (λ (z : LoadedSource). length z.site.left)) c.deref.ensures.value)),
+        (
+          starts c.args.setup c.args.sources.items (g.S.Store.state c.args.store) c.in_ok-core.core c.in_ok-core.ensures c.args.sink.now c.deref-2.result.now
+              (c.args.schedule.now.sessions, c.args.schedule.now.events.now) (subst IsSetup c.setup.view_is c.setup.invariant) c.requires.fresh c.requires.store
+              (c.deref-2.ensures.value ∙ (c.in_ok-counts.ensures ∙ ap (map (λ (z : LoadedSource). length z.site.left)) c.deref.ensures.value)),
+          (refl, refl),
+        ),
       ),
     ),
   ),
@@ -33,15 +36,15 @@ run_on-requires g c = λ κs lives. (
 
 pub returns-clause-told : goal.returns-clause-told
 returns-clause-told g c = if_is_ok c.run_on.result c.run_on.ensures.told (λ full t work is_work are.
-    subst (λ (s : Script). TellsWhole g.K.RecordSink.told (record { script = s; events = []; sink = c.args.sink.now }) c.run_on.new.sink full)
-    (script_is c.args.setup c.args.sources.items (g.S.Store.state c.args.store) c.in_ok-core.core c.in_ok-core.ensures work are) t)
+    subst (λ (s : Script). TellsWhole g.K.RecordSink.told (record { script = s; events = c.args.schedule.now.events.now; sink = c.args.sink.now }) c.run_on.new.sink full)
+    (script_is c.args.setup c.args.sources.items (g.S.Store.state c.args.store) c.in_ok-core.core c.in_ok-core.ensures c.args.schedule.now.sessions work are) t)
 
 pub returns-clause-memory : goal.returns-clause-memory
 returns-clause-memory g c = if_err c.run_on.result c.run_on.ensures.memory (λ e t is work is_work are.
-    subst (λ (s : Script). TellsPart g.K.RecordSink.told (record { script = s; events = []; sink = c.args.sink.now }) c.run_on.new.sink)
-    (script_is c.args.setup c.args.sources.items (g.S.Store.state c.args.store) c.in_ok-core.core c.in_ok-core.ensures work are) (t is))
+    subst (λ (s : Script). TellsPart g.K.RecordSink.told (record { script = s; events = c.args.schedule.now.events.now; sink = c.args.sink.now }) c.run_on.new.sink)
+    (script_is c.args.setup c.args.sources.items (g.S.Store.state c.args.store) c.in_ok-core.core c.in_ok-core.ensures c.args.schedule.now.sessions work are) (t is))
 
 pub returns-clause-failed : goal.returns-clause-failed
 returns-clause-failed g c = if_err c.run_on.result c.run_on.ensures.failed (λ e t is work is_work are.
-    subst (λ (s : Script). TellsPart g.K.RecordSink.failed (record { script = s; events = []; sink = c.args.sink.now }) c.run_on.new.sink)
-    (script_is c.args.setup c.args.sources.items (g.S.Store.state c.args.store) c.in_ok-core.core c.in_ok-core.ensures work are) (t is))
+    subst (λ (s : Script). TellsPart g.K.RecordSink.failed (record { script = s; events = c.args.schedule.now.events.now; sink = c.args.sink.now }) c.run_on.new.sink)
+    (script_is c.args.setup c.args.sources.items (g.S.Store.state c.args.store) c.in_ok-core.core c.in_ok-core.ensures c.args.schedule.now.sessions work are) (t is))
