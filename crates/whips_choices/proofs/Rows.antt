@@ -1,4 +1,16 @@
 -- What is in rows in the order of their keys, and after an edit of them.
+--
+-- `same_row`, `same_rows`: rows in the order of their keys have at most one row for each key, and two such lists with the same elements are
+-- the same list. `without_only`, `without_keeps`, `put_has`, `put_only`, `put_keeps`: what is in rows after a key is deleted, or a row put.
+-- `missing_has`, `missing_only`, `missing_keeps`, `puts_have`, `puts_only`, `puts_keep`: the same after many rows are put, where their keys
+-- are missing, or one by one. `row_found`, `row_missing`: what a search by key finds.
+--
+-- The idea: an edit compares keys alone, and keys that tie are equal. So an edit changes nothing but the row with its own key, and each row
+-- with another key is there afterwards exactly where it was there before. In the order of their keys each row is before all later ones, so
+-- none is there twice, and the elements of a list determine it.
+--
+-- Four lemmas carry it: `codes_equal` and `codes_tied` (keys tie exactly where they are equal), `key_is` and `key_differs` (what the test
+-- of a row's key says).
 use Rattle.std.proofs.Common.{◌≡◌, ◌≢◌, ◌⊎◌, inl, inr, ℕ, Bool, true, false, cond, not, Option, Some, None, is_some, List, [], ◌∷◌, refl, sym, ap, ap₂, subst, ◌∙◌}
 use Rattle.std.specs.List.{AllByRecursion}
 use Rattle.std.specs.Ordering.{nat_cmp, is_eq, ordering_then, match_ordering}

@@ -1,4 +1,15 @@
 -- The closure grows until it is closed.
+--
+-- `closure_least`: the closure of a row is the least closed set of numbers with the row's own (`IsLeastClosed`); `closures_least`: so it is
+-- for each row of a table. `draws_entries`: a row needs another one exactly where its entry for some view needs the other, which concerns
+-- that view, or where the other is an earlier row of the same source.
+--
+-- The idea: a turn adds the numbers of all rows that a row of the set needs. A set to which a turn adds none is closed, and each other turn
+-- leaves fewer rows outside, so as many turns as there are rows are enough. A closed set that has all numbers before a turn has them after
+-- it, so the closure is within each closed set with the row's number.
+--
+-- Four lemmas carry it: `grown_closed` (after so many turns the set is closed), `grown_within` (the turns stay within each closed set),
+-- `came` (what a turn adds was needed) and `count_same` (where no more elements pass a wider test, the same pass).
 use Rattle.std.proofs.Common.{◌≡◌, ℕ, zero, suc, ◌+◌, ◌≤◌, Bool, true, false, ◌&&◌, List, [], ◌∷◌, length, Some, cond, eqb, ltb, refl, sym, ap, subst, ◌∙◌, arith, ◌⊎◌, inl, inr, ⊎_elim}
 use Rattle.std.specs.Prelude.{slice_get, map, filter}
 use Rattle.std.specs.List.{list_any, AllByRecursion}

@@ -26,7 +26,7 @@ use Rattle.whips_facts.specs.ScriptFacts.{facts_of}
 use Rattle.whips_core_laws.specs.Core.{Carries}
 use Rattle.whips_core.specs.Cores.{CoreData, script_with, AreFresh, IsCarried, IsCore, IsRun}
 
-after_more : (s : SetupData) (es : List Event) (l : LoadedPipeline) (e : Event) → after_loaded s l (es ++ e ∷ []) ≡ step_loaded s (after_loaded s l es) e
+pub after_more : (s : SetupData) (es : List Event) (l : LoadedPipeline) (e : Event) → after_loaded s l (es ++ e ∷ []) ≡ step_loaded s (after_loaded s l es) e
 after_more s [] l e = refl
 after_more s (d ∷ es) l e = after_more s es (step_loaded s l d) e
 

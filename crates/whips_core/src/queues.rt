@@ -129,7 +129,11 @@ impl Model for ManagerQueues {
 
     ghost Value = { LoadedManager };
 
-    ghost view = { λ d. record { manager = d.manager; messages = map input_of d.messages.items; lists = d.lists.items } };
+    ghost view = { λ d. record {
+      manager = d.manager;
+      messages = map input_of d.messages.items;
+      lists = d.lists.items;
+    } };
 }
 
 /// The transaction again. Its tuples are shared.

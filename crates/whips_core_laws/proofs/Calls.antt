@@ -120,7 +120,7 @@ module _ (s : Script) (is : IsSetup s.setup) (works : IsWorkload s.setup s.work)
 
 -- ---- the actions of lists
 
-after_more : (s : SetupData) (es : List Event) (l : LoadedPipeline) (e : Event) → after_loaded s l (es ++ e ∷ []) ≡ step_loaded s (after_loaded s l es) e
+pub after_more : (s : SetupData) (es : List Event) (l : LoadedPipeline) (e : Event) → after_loaded s l (es ++ e ∷ []) ≡ step_loaded s (after_loaded s l es) e
 after_more s [] l e = refl
 after_more s (d ∷ es) l e = after_more s es (step_loaded s l d) e
 

@@ -4,7 +4,7 @@
 --
 -- The idea: the laws of contents, numbers, lists, versions and stores each have a premise that another one gives. None needs more than the same moment, so one induction over the events carries them all.
 --
--- Three lemmas carry it: `begins_right` and `leads` (the next transaction), and `settled_moved` (the lists stay in their lines).
+-- Four lemmas carry it: `begins_right` and `leads` (the next transaction), and `rel_moved` and `act_moved` (the lists stay in their lines).
 use Rattle.std.proofs.Common.{◌≡◌, ℕ, zero, suc, ◌%◌, ◌≤◌, ◌&&◌, ◌==◌, true, false, not, cond, List, [], ◌∷◌, ◌++◌, length, drop, Option, Some, None, ◌+◌, refl, sym, ap, subst, ◌∙◌, arith, eqb-true, append-nil}
 use Rattle.std.specs.Prelude.{slice_get, map, is_some}
 use Rattle.std.specs.Option.{option_and_then, option_map}

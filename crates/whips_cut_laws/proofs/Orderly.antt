@@ -1,4 +1,16 @@
 -- What holds of the rows, the messages and the cuts at every moment.
+--
+-- `start_orderly`, `after_kept`: at the start, and after every list of events, the rows of the sets, of the table and on their way go on
+-- from the writer's target cut in order, each source sends its transactions in order, and the cuts of the versions advance (`Orderly`).
+-- `advance`: so each version's cut advances on the one before, and none counts more than was committed (`CutsAdvance`). `above_top`,
+-- `top_is_cut`: where nothing is on its way, the current cut counts each committed transaction that concerns a view.
+--
+-- The idea: a source sends its transactions in the order of their places, so the row of a transaction has a higher place than all earlier
+-- rows of its source. A row set that leaves the table is a closure, which leaves no earlier row of a source behind. So a row set, which is
+-- never empty, raises the cut of some source and lowers none.
+--
+-- Five lemmas carry it: `sent_kept` (a transaction is numbered), `settled_lined` (the merge settles), `begin_kept` and `publish_kept` (the
+-- writer) and `advance_by` (a set that isn't empty advances the cut).
 use Rattle.std.proofs.Common.{◌≡◌, ℕ, zero, suc, ◌+◌, ◌-◌, ◌%◌, ◌<◌, ◌≤◌, max, true, false, not, List, [], ◌∷◌, ◌++◌, length, Option, Some, None, cond, eqb, ltb, refl, sym, ap, subst, ◌∙◌, arith, ◌⊎◌, inl, inr, ⊎_elim, append_assoc, append-nil, length-append}
 use Rattle.std.specs.Prelude.{slice_get, slice_index, fold, is_some, replicate}
 use Rattle.std.specs.List.{AllByRecursion, list_any}

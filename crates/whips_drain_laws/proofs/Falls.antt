@@ -1,4 +1,15 @@
 -- Each event makes the work smaller.
+--
+-- `falls`: each event that is done makes the work of the pipeline smaller, where a version changes at most as many rows as there are slots
+-- (`IsRoomy`) and there is a manager for each view (`EventsLessenWork`). `drains`: so after as many events as the work says the drain has
+-- no next event (`DrainEnds`). `next_shaped`: each event keeps a manager for each view.
+--
+-- The idea: the work is a sum over what is still to be done, where each thing counts for more than all that its event puts in its place. A
+-- transaction counts for the messages to its managers and for its row, a query for its steps that are left, and a row for a begin, for as
+-- many changes as there are slots, and for a publish.
+--
+-- Five lemmas carry it: `numbered_gain` (a transaction is numbered), `asks_gain` and `managed_falls` (a manager takes a message),
+-- `settled_size` (rows and sets don't become more while the merge settles) and `begin_falls` (a set becomes changes).
 use Rattle.std.proofs.Common.{◌≡◌, ℕ, zero, suc, ◌+◌, ◌-◌, ◌*◌, ◌%◌, ◌<◌, ◌≤◌, Bool, true, false, not, List, [], ◌∷◌, ◌++◌, length, Option, Some, None, cond, eqb, ltb, refl, sym, ap, subst, ◌∙◌, arith, append_assoc, length-append}
 use Rattle.std.specs.Prelude.{slice_get, slice_index, map, filter, find, fold, is_some, drop}
 use Rattle.std.specs.List.{list_any}

@@ -25,10 +25,10 @@ use Rattle.whips_run_laws.proofs.Reaches.{start_reached, listed_plan_reached, pi
 use Rattle.whips_facts_laws.specs.ScriptRuns.{IsAtRest, EndsWell, ListedRunsEndWell, PickedRunsEndWell}
 use Rattle.whips_facts_laws.proofs.Premises.{roomy, asks_there}
 
-step_shaped : (f : Facts) (p : Pipeline) (e : Event) → HasAllManagers f p → HasAllManagers f (step f p e)
+pub step_shaped : (f : Facts) (p : Pipeline) (e : Event) → HasAllManagers f p → HasAllManagers f (step f p e)
 step_shaped f p e h = elim (is_done f p e) as (λ b. HasAllManagers f (cond b (next f p e) p)) [ true ↦ next_shaped f p e h | false ↦ h ]
 
-after_shaped : (f : Facts) (es : List Event) (p : Pipeline) → HasAllManagers f p → HasAllManagers f (after f p es)
+pub after_shaped : (f : Facts) (es : List Event) (p : Pipeline) → HasAllManagers f p → HasAllManagers f (after f p es)
 after_shaped f [] p h = h
 after_shaped f (e ∷ es) p h = after_shaped f es (step f p e) (step_shaped f p e h)
 

@@ -14,7 +14,8 @@ pub use event::Event;
 
 /// A run goes on from where it stopped.
 pub fn runs_join()
-    ensures { (f : Facts) (p : Pipeline) (es more : List Event) → after f p (es ++ more) ≡ after f (after f p es) more }
+    ensures { (f : Facts) (p : Pipeline) (es more : List Event)
+        → after f p (es ++ more) ≡ after f (after f p es) more }
 {}
 
 /// An event that isn't enabled changes nothing, nor does a begin for which a view has too few slots.

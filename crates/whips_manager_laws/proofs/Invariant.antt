@@ -1,4 +1,17 @@
 -- What keeps the invariant of a manager.
+--
+-- `unconcerned_core`, `deletion_core`, `insertion_core`, `answer_core`, `closing_core`: the four parts of the invariant that speak of one
+-- query at a time (`Core`) are kept where tuples that don't meet the view come and go, by a deletion, an insertion and an answer, and where
+-- a query with all its parts filled is closed. `deletion_stands`, `insertion_stands`: a deletion and an insertion keep the numbers of the
+-- queries too, and so the whole invariant (`ManagerInvariant`).
+--
+-- The idea: each row of the view's value is made by the actions, or an open query will find it. A deletion takes out the rows with its key
+-- and is noted as pending in each query, so no query finds such a row later. An insertion opens a query with the new tuples as seeds, which
+-- will find each choice with one of them. An answer extends each partial choice by all tuples that fit, so the query finds what it would
+-- have found before. A query that is closed puts the rows of its choices that no pending deletion takes out.
+--
+-- Four lemmas carry it: `drawn_from` (a choice is one of other tables), `changed_here` and `changed_off` (the tables once one of them
+-- changed) and `mid_cases` (which queries there are once one changed).
 use Rattle.std.proofs.Common.{◌≡◌, ◌≢◌, ◌⊎◌, inl, inr, ℕ, ◌<◌, ◌≤◌, not, Bool, true, false, cond, Option, Some, None, is_some, List, [], ◌∷◌, ◌++◌, length, map, get_or, set, replicate, refl, sym, ap, subst, ◌∙◌, arith, append-nil, eq-eqb, ne_eqb}
 use Rattle.std.proofs.lemmas.Bool.{cases_eq}
 use Rattle.std.proofs.lemmas.List.{get_or-set_same, get_or-set_other, length-set, length-replicate, map-append}

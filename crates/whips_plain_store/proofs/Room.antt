@@ -1,4 +1,15 @@
 -- Where there is a free slot for each key that no slot shows, a view has slots enough.
+--
+-- `has_room`: where the keys of the changes that no slot shows are no more than the free slots, the view has as many slots as it needs
+-- (`slots_needed`); `has_room_by`: the same for columns and records that are equal to the view's. `wide_changes`: the rows that net changes
+-- bring have the width of the view's rows.
+--
+-- The idea: each key that needs a slot has one: the slot that shows it or, where none does, the free slot at the key's place among the
+-- unknown keys. No slot is for two keys: a slot shows one key alone, a free slot shows none, and the free slots are in rising order, so
+-- each is among them once. So there are no more such keys than slots.
+--
+-- Four lemmas carry it: `slot_of` (each row's key has a slot), `one_for` (a slot is for one key), `roomy` (so there are no more keys than
+-- slots) and `added` (a row whose key wasn't there before is among the changes).
 use Rattle.std.proofs.Common.{◌≡◌, ◌≢◌, ◌⊎◌, inl, inr, ℕ, zero, suc, ◌+◌, ◌-◌, ◌/◌, ◌<◌, ◌≤◌, Bool, true, false, cond, List, [], ◌∷◌, ◌++◌, length, map, get_or, Option, Some, None, is_some, refl, sym, ap, subst, ◌∙◌, arith}
 use Rattle.std.specs.Prelude.{reverse, is_none, ◌↔◌}
 use Rattle.std.specs.List.{list_any, filter, filter_map, position, AllByRecursion}

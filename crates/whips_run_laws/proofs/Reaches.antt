@@ -23,11 +23,11 @@ after_join f p (e ∷ es) more = after_join f (step f p e) es more
 step_reached : (f : Facts) (p : Pipeline) (e : Event) → IsReached f p → IsReached f (step f p e)
 step_reached f p e r = record { events = r.events ++ e ∷ []; led = after_join f (start f) r.events (e ∷ []) ∙ ap (λ q. step f q e) r.led }
 
-chosen_second : {A : Type 0} (b : Bool) (x y : A) → b ≡ false → cond b x y ≡ y
+pub chosen_second : {A : Type 0} (b : Bool) (x y : A) → b ≡ false → cond b x y ≡ y
 chosen_second true x y h = absurd (cc)
 chosen_second false x y h = refl
 
-chosen_first : {A : Type 0} (b : Bool) (x y : A) → b ≡ true → cond b x y ≡ x
+pub chosen_first : {A : Type 0} (b : Bool) (x y : A) → b ≡ true → cond b x y ≡ x
 chosen_first true x y h = refl
 chosen_first false x y h = absurd (cc)
 

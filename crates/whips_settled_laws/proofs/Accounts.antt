@@ -1,4 +1,16 @@
 -- What is on its way is accounted for, at every moment.
+--
+-- `Accounted` is the record of it: each open step of a manager is on its way as an ask, an answer or a reply; each white entry of a row
+-- waits for something that is still to come (`Waits`); and the transactions in a queue and the rows that come rise in number, with no list
+-- above the last of these rows. `source_kept`, `manager_kept`: a change of one source, or of one manager, that keeps what is on its way
+-- keeps it. `commit_kept`, `answer_kept`: so these two events keep it.
+--
+-- The idea: a white entry waits for a transaction that its manager has still to take, for an open query of that manager, or for a list on
+-- its way to the merge or in it (`Reason`). Where one of these goes while the entry is white, another takes its place. A step goes from the
+-- asks of its source to its answers and then to the manager's replies, and is in one of these until the manager takes the reply.
+--
+-- Five lemmas carry it: `flying_changed` (a source changes and keeps a step), `flying_asks` and `flying_news` (asks that are sent), and
+-- `give_reason` and `give_fits` (a manager gives its list where no query is open).
 use Rattle.std.proofs.Common.{◌≡◌, ℕ, suc, ◌-◌, ◌<◌, ◌≤◌, Bool, true, false, List, [], ◌∷◌, ◌++◌, length, Some, None, eqb, refl, sym, ap, subst, ◌∙◌, arith, ◌⊎◌, inl, inr, ⊎_elim}
 use Rattle.std.specs.Prelude.{slice_get, slice_index, fold, find}
 use Rattle.std.proofs.lemmas.Bool.{eqb-true, eqb-false}

@@ -1,4 +1,15 @@
 -- At the end nothing is left.
+--
+-- `nothing_left`: after every list of events, where no event of the pipeline is enabled, all transactions are committed and nothing is on
+-- its way (`NothingIsLeft`). `start_sound`, `after_sound`: at the start, and after every list of events, what is on its way is accounted
+-- for and the merge has settled (`Sound`).
+--
+-- The idea: where no event is enabled each queue is empty. So no step is on its way, and by the accounts no query is open. All rows have
+-- come, so no list waits for one, and nothing is left for which a white entry could wait. Each row would then be ready, but in a merge that
+-- has settled no row is ready, so there is none. The writer has no change left and no row set to begin.
+--
+-- Five lemmas carry it: `next_sound` (each event), `open_off` (no query is open), `waiting_off` (no list waits), `no_waits` (no entry
+-- waits) and `rows_off` (no row is left).
 use Rattle.std.proofs.Common.{◌≡◌, ℕ, suc, ◌+◌, ◌%◌, ◌<◌, Bool, true, false, ◌&&◌, not, List, [], ◌∷◌, ◌++◌, length, Option, Some, None, cond, eqb, ltb, refl, sym, ap, subst, ◌∙◌, arith, inl, inr, ⊎_elim}
 use Rattle.std.specs.Prelude.{slice_get, slice_index, map, fold, is_some, replicate}
 use Rattle.std.specs.List.{list_all, flat_map}

@@ -1,4 +1,15 @@
--- Each event keeps the accounts.
+-- A manager that takes a message, and the integrator, keep the accounts.
+--
+-- `manage_kept`, `integrate_kept`: after a manager has taken a message, and after the integrator has taken one of a source, what is on its
+-- way is accounted for (`Accounted`) where it was before.
+--
+-- The idea: a manager that takes a transaction asks the first steps of its queries, or gives its list at once. So an entry that waited for
+-- the transaction now waits for a query or for the list. A reply leads its query to the next step, which is asked, or closes it. The
+-- integrator gives a transaction a number above all others and sends it to each manager whose view it concerns, and the white entries of
+-- its row wait for these. An answer is handed on as a reply.
+--
+-- Five lemmas carry it: `update_kept` and `reply_kept` (the two messages of a manager), `numbered_kept` (a transaction is numbered),
+-- `answered_kept` (an answer is handed on) and `pop_flying` (what is on its way once an answer has left its source).
 use Rattle.std.proofs.Common.{◌≡◌, ℕ, zero, suc, ◌+◌, ◌-◌, ◌<◌, Bool, true, false, not, List, [], ◌∷◌, ◌++◌, length, Some, cond, eqb, ltb, refl, sym, ap, subst, ◌∙◌, arith, ◌⊎◌, inl, inr, ⊎_elim, append_assoc, append-nil, length-append}
 use Rattle.std.specs.Prelude.{slice_get, slice_index, filter, fold}
 use Rattle.std.specs.List.{AllByRecursion, list_any}

@@ -1,4 +1,15 @@
 -- The merge settles.
+--
+-- `released_kept`, `acted_kept`: after a row, or a list, has come to the merge and the merge has settled, what is on its way is accounted
+-- for (`Accounted`) where it was before. `settled_is`: once it has settled no row is ready, and the first waiting list of each view waits
+-- for a row that hasn't come (`Settled`).
+--
+-- The idea: a list that is due paints each white entry that it covers, so an entry that is still white waits for something else, which is
+-- still there. A list that isn't due is above the last row that came. A row set that leaves takes its own row at least, so as many turns as
+-- there are rows leave none that is ready.
+--
+-- Four lemmas carry it: `paint_views_from` (what a white entry says of the lists that were painted), `from_split` (a list is due or stays),
+-- `swept_unready` (row sets leave until no row is ready) and `settled_accounted` (the accounts once the merge has settled).
 use Rattle.std.proofs.Common.{◌≡◌, ℕ, zero, suc, ◌+◌, ◌<◌, ◌≤◌, Bool, true, false, not, List, [], ◌∷◌, ◌++◌, length, Some, None, cond, eqb, leb, refl, sym, ap, subst, ◌∙◌, arith, ◌⊎◌, inl, inr, ⊎_elim, append_assoc}
 use Rattle.std.specs.Prelude.{slice_get, map, fold, find}
 use Rattle.std.proofs.lemmas.Bool.{eqb-true, eqb-false, leb-true, leb-false}

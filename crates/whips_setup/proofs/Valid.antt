@@ -1,4 +1,17 @@
 -- Updates that are made in relations, and what follows where none is refused.
+--
+-- `is_workload`: a workload within its limits of which no update is refused is valid: each source updates its own relations alone, and each
+-- update is valid on the relations after those before it (`IsWorkload`). `insert_made`, `insert_refused`, `delete_made`, `delete_refused`:
+-- an update that is made, or refused, in its own relation is made, or refused, in all relations. `lengths_kept`, `all_widths_stay`: updates
+-- keep the number of relations, and the widths that tuples must have.
+--
+-- The idea: an update is refused where it fails a test of its source or of the row with its key. So where none is refused, the tests say
+-- what a valid update needs. Updates change rows and never columns, so tuples with the widths of the initial relations have those of all
+-- later ones.
+--
+-- Five lemmas carry it: `valid_lists` (updates of which none is refused are valid), `own_lists` (and each is of its source's relations),
+-- `lists_wide` (within the limits the widths are right), `set_changed` (a changed relation is put in its place) and `update_is` (an update
+-- is refused as it is in its relation).
 use Rattle.std.proofs.Common.{◌≡◌, ℕ, zero, suc, ◌&&◌, ◌==◌, nat_eq, nat_le, Bool, true, false, cond, List, [], ◌∷◌, length, set, get_or, slice_get, is_some, Option, Some, None, ◌≢◌, Result, Ok, Err, OnOk, IfErr, refl, sym, ap, ap₂, subst, ◌∙◌, arith, eqb-true, eq-eqb}
 use Rattle.std.specs.Option.{option_or}
 use Rattle.std.specs.List.{list_all, AllByRecursion}

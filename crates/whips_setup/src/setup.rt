@@ -33,9 +33,23 @@ impl Model for Setup {
 
     ghost use Rattle.whips_setup.specs.Refusals.{IsSetup};
 
-    ghost view = { λ s. record { sources = s.sources; homes = s.homes.items; initial = s.initial; views = s.views.items; slots = s.slots.items; versions = s.versions } };
+    ghost view = { λ s. record {
+      sources = s.sources;
+      homes = s.homes.items;
+      initial = s.initial;
+      views = s.views.items;
+      slots = s.slots.items;
+      versions = s.versions;
+    } };
 
-    ghost invariant = { λ s. IsSetup (record { sources = s.sources; homes = s.homes.items; initial = s.initial; views = s.views.items; slots = s.slots.items; versions = s.versions }) };
+    ghost invariant = { λ s. IsSetup (record {
+      sources = s.sources;
+      homes = s.homes.items;
+      initial = s.initial;
+      views = s.views.items;
+      slots = s.slots.items;
+      versions = s.versions;
+    }) };
 }
 
 impl Setup {

@@ -1,4 +1,16 @@
 -- What an index has gained once slots were visited.
+--
+-- `visited_at`: once the key that a slot shows is noted, and the slot is put among the free ones or those to visit again where it belongs,
+-- the slot is visited (`AreVisited`). `then_visited`, `none_visited`: visits of some slots and then of others are a visit of all, and where
+-- no slot is visited nothing has to change. `record_at`, `wide_at`, `few_at`: the record of a slot that was read, and how many steps and
+-- how wide rows it has.
+--
+-- The idea: at versions in use a slot shows one key alone, and a key is shown by one slot (`HasSlotForKey`). So a key that is noted anew is
+-- noted with the slot that shows it, and what was noted of other slots stays. A slot that is free, or shows a row at the committed version,
+-- is settled; each other one is to be visited again.
+--
+-- Three lemmas carry it: `visited` (one slot), `keys_of` (which slot is noted for each key) and `quiet_older` (between transactions no step
+-- is newer than the committed version).
 use Rattle.std.proofs.Common.{◌≡◌, ◌⊎◌, inl, inr, ℕ, ◌*◌, ◌<◌, ◌≤◌, Bool, true, false, cond, not, List, [], ◌∷◌, ◌++◌, length, get_or, Option, Some, None, refl, sym, ap, subst, ◌∙◌, arith}
 use Rattle.std.specs.Prelude.{◌&&◌, ◌||◌, nat_eq}
 use Rattle.std.specs.List.{AllByRecursion}

@@ -1,4 +1,16 @@
 -- A view's slots once a change is made.
+--
+-- The slot that is chosen for a change (`IsChosen`) gets a step of the next version. `slots_after`, `keys_after`, `written_after`: then
+-- each slot is in order, each key has one slot and each slot one key (`HasSlotForKey`), and each slot that was written shows what the new
+-- rows have (`IsWritten`). `rows_stay`, `need_stays`: the versions in use show the same rows, and as many slots are needed. `next_after`:
+-- the next version shows its rows after the change.
+--
+-- The idea: one slot changes, and its new step is of the next version, so at the versions in use it shows what it showed. The slot is that
+-- of the change's key or was free, so it shows this key alone, and no other slot shows it. Rows with other keys are shown by other slots,
+-- which stay as they are.
+--
+-- Five lemmas carry it: `stays` and `shown_next` (what the slot shows at the versions in use and at the next one), `own` (its rows have the
+-- change's key), and `changed_own` and `changed_other` (the rows after a change, key by key).
 use Rattle.std.proofs.Common.{◌≡◌, ◌≢◌, ◌⊎◌, inl, inr, ℕ, zero, suc, ◌+◌, ◌-◌, ◌/◌, ◌<◌, ◌≤◌, Bool, true, false, cond, List, [], ◌∷◌, ◌++◌, length, map, Some, refl, sym, ap, subst, ◌∙◌, arith}
 use Rattle.std.specs.Prelude.{set, ◌↔◌}
 use Rattle.std.specs.List.{AllByRecursion}

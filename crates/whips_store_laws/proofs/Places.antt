@@ -1,4 +1,16 @@
--- Which slot a change is made in, and what holds of the slots after it.
+-- Which slot a change is made in, and what holds of a view's slots meanwhile.
+--
+-- `chosen`: each net change has a slot (`slot_for`), which is that of its key and which it fits (`IsChosen`). `net_change`: what the first
+-- of some net changes says of the rows before and after (`IsNetChange`). `shown_row`, `row_slot`: the row with a key at a version is what
+-- one of the slots shows there. `key_needed`, `new_needed`: the keys that slots show, and those of the new rows, are among those that need
+-- slots.
+--
+-- The idea: at the versions in use and at the next one each key has one slot and each slot one key (`HasSlotForKey`). So a slot that shows
+-- a key is the key's slot, and the change fits what it shows. Where no slot shows the key there is a free one: were all taken, each would
+-- have another key that needs a slot, and with the new key more slots would be needed than there are.
+--
+-- Four lemmas carry it: `slot_row` (the row with a key is what its slot shows), `chosen_shown` and `chosen_free` (a slot that shows the
+-- key, and a free one) and `none_free` (there is a free slot for a new key).
 use Rattle.std.proofs.Common.{◌≡◌, ◌≢◌, inl, inr, ℕ, suc, ◌-◌, ◌/◌, ◌<◌, ◌≤◌, Bool, true, false, cond, List, [], ◌∷◌, ◌++◌, length, map, get_or, Option, Some, None, is_some, refl, sym, ap, subst, ◌∙◌, arith}
 use Rattle.std.specs.Prelude.{reverse, min, ◌&&◌}
 use Rattle.std.specs.List.{position, list_all, AllByRecursion}

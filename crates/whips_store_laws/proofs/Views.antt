@@ -1,4 +1,16 @@
 -- The calls of a store keep each view sound.
+--
+-- `view_begun`, `view_changed`, `view_published`: a view that is sound (`IsSoundView`) is sound once a transaction has begun, once the
+-- first change that is left was made, and once the transaction is published. `slot_fits`, `slot_found`: there is a slot for that change,
+-- which it fits. `wide_seen`: a row that is seen has the width of the view's rows.
+--
+-- The idea: outside a transaction no step is newer than the committed version, so the next version shows the same rows, and a transaction
+-- that begins has all its changes left. After a change the next version shows its rows with this change, and the versions in use show what
+-- they showed. Once no change is left the next version shows the new rows. It then becomes the committed one, while each slot shows what it
+-- showed.
+--
+-- Four lemmas carry it: `view_chosen` (the slot of the first change that is left), `next_same` (where no step is newer, the next version
+-- shows the same rows), and `keys_published` and `needed_still` (keys and slots once the next version is the committed one).
 use Rattle.std.proofs.Common.{◌≡◌, ◌⊎◌, inl, inr, ℕ, zero, suc, ◌+◌, ◌/◌, ◌%◌, ◌<◌, ◌≤◌, Bool, true, false, cond, leb, ltb, List, [], ◌∷◌, ◌++◌, length, map, get_or, take, Option, Some, None, is_some, refl, sym, ap, subst, ◌∙◌, arith}
 use Rattle.std.specs.Prelude.{reverse, set}
 use Rattle.std.specs.List.{cons_option, AllByRecursion}

@@ -1,6 +1,6 @@
 -- A manager that takes a message does to the numbers of the pipeline what the machine does.
 --
--- `manage_update_projects`, `manage_reply_projects`: the same for the manager's event, for a transaction and for a reply.
+-- `manage_update_projects`, `manage_reply_projects`: the numbers (`tokens`) of the pipeline after the manager's event, for a transaction and for a reply, are the machine's state after that event.
 --
 -- The idea: the machine's open steps are those of the manager's open queries, and its asks go to the sources in the same order. A query that is done leaves both. The list leaves exactly where no query is open.
 --

@@ -1,4 +1,16 @@
 -- What a transaction makes of a relation, key by key.
+--
+-- `net_rows`: after a valid transaction a relation has its rows without the keys of the deleted tuples, and then with the inserted ones
+-- (`NetRows`). `inserted_last`, `deleted_first`: the inserted tuples are those whose key's last update is their insert, and the deleted
+-- ones those whose key's first update is their delete. `others_miss`: an inserted tuple that a view isn't given, and a deleted one whose
+-- key isn't taken from it, don't meet the view.
+--
+-- The idea: an update changes the row of one key alone. So the row of a key after a transaction is what its last update left, and the row
+-- before is what its first update found, which is none for a valid insert. Rows in the order of their keys that have the same row for each
+-- key are the same rows.
+--
+-- Five lemmas carry it: `left_row` and `found_row` (the row of a key after one update, and before it), `whole_row` (all updates of a key),
+-- and `last_row` and `first_is` (the last of them, and the first).
 use Rattle.std.proofs.Common.{◌≡◌, ◌≢◌, ◌⊎◌, inl, inr, ℕ, ◌==◌, ◌&&◌, Bool, true, false, cond, not, Option, Some, None, is_some, List, [], ◌∷◌, map, fold, slice_get, refl, sym, ap, ap₂, subst, ◌∙◌, eqb-true, eq-eqb}
 use Rattle.std.specs.List.{filter}
 use Rattle.std.specs.Option.{option_or}

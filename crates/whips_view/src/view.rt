@@ -34,7 +34,8 @@ impl Model for ViewDef {
 
     ghost view = { λ v. record { parts = v.parts; bases = v.bases.items } };
 
-    ghost invariant = { λ v. IsWellFormed (record { parts = v.parts; bases = v.bases.items }) × (v.schema ≡ row_columns (record { parts = v.parts; bases = v.bases.items })) };
+    ghost invariant = { λ v. IsWellFormed (record { parts = v.parts; bases = v.bases.items })
+        × (v.schema ≡ row_columns (record { parts = v.parts; bases = v.bases.items })) };
 }
 
 impl ViewDef {
