@@ -12,7 +12,7 @@ use Rattle.whips_model.specs.Relation.{Table}
 use Rattle.whips_choices.proofs.Rows.{row_found}
 use Rattle.whips_rel.specs.declared.update.Update.{Update}
 use Rattle.whips_rel.specs.declared.update.Update.TheVariants.{Insert, Delete}
-use Rattle.whips_states.specs.States.{with_row, without_row, updated, applied}
+use Rattle.whips_states.specs.States.{Updates, with_row, without_row, updated, applied, all_applied}
 use Rattle.whips_lists.specs.Lists.{changed_at}
 use Rattle.whips_forms.specs.Rows.{codes_in, new_row_in, named_row_in, rows_added, update_of, update_at, IsMadeIn}
 
@@ -68,6 +68,10 @@ length_kept db (Delete r t) = changed_length r (without_row t) db
 pub lengths_kept : (db : List Table) (us : List Update) → length (applied db us) ≡ length db
 lengths_kept db [] = refl
 lengths_kept db (u ∷ us) = lengths_kept (updated db u) us ∙ length_kept db u
+
+pub all_lengths_kept : (db : List Table) (ts : List Updates) → length (all_applied db ts) ≡ length db
+all_lengths_kept db [] = refl
+all_lengths_kept db (t ∷ ts) = all_lengths_kept (applied db t) ts ∙ lengths_kept db t
 
 -- the update that is made in one relation
 pub update_made : (db : List Table) (n : ℕ) (table after : Table) (kind values : Data) (r : Result Update ReadErr) → n < length db → table ≡ get_or db n table

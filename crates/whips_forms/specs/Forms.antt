@@ -7,7 +7,7 @@ use Rattle.whips_forms.specs.Json.{Text}
 
 -- Whether an object of this form may have a member with this name.
 abbrev pub is_member_of : ObjectForm → Text → Bool
-is_member_of Document name = bytes_eq name (codes "sources") || bytes_eq name (codes "views") || bytes_eq name (codes "sessions") || bytes_eq name (codes "schedule")
+is_member_of Document name = bytes_eq name (codes "versions") || bytes_eq name (codes "sources") || bytes_eq name (codes "views") || bytes_eq name (codes "sessions") || bytes_eq name (codes "schedule")
 is_member_of Source name = bytes_eq name (codes "name") || bytes_eq name (codes "relations") || bytes_eq name (codes "updates")
 is_member_of Relation name = bytes_eq name (codes "name") || bytes_eq name (codes "columns") || bytes_eq name (codes "key") || bytes_eq name (codes "rows")
 is_member_of View name = bytes_eq name (codes "name") || bytes_eq name (codes "relations") || bytes_eq name (codes "equal") || bytes_eq name (codes "where") || bytes_eq name (codes "out") || bytes_eq name (codes "slots")

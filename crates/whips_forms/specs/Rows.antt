@@ -8,8 +8,8 @@ use Rattle.whips_model.specs.Tuples.{Codes, Columns, at_columns, row_at, put_row
 use Rattle.whips_model.specs.Relation.{Table}
 use Rattle.whips_rel.specs.declared.update.Update.{Update}
 use Rattle.whips_rel.specs.declared.update.Update.TheVariants.{Insert, Delete}
-use Rattle.whips_states.specs.States.{with_row, without_row, updated, applied}
-use Rattle.whips_forms.specs.Json.{Text, only, elements, elements_within, each, each_after}
+use Rattle.whips_states.specs.States.{Updates, with_row, without_row, updated, applied, all_applied}
+use Rattle.whips_forms.specs.Json.{Text, only, elements, elements_within, each, each_after, is_text}
 use Rattle.whips_forms.specs.Names.{place_in}
 
 -- A number value: no sign, fraction or exponent, at most 999,999,999,999.
@@ -61,21 +61,45 @@ abbrev pub update_in : List Text → List Table → Data → Option Update
 update_in names db d = option_and_then (update_from names db) (elements d)
 
 -- The updates, each on the relations after the ones before it.
-abbrev pub updates_from : List Text → List Table → List Data → Option (List Update)
+abbrev pub updates_from : List Text → List Table → List Data → Option Updates
 updates_from names db ds = each_after (update_in names) updated db ds
 
--- The updates, of which there are none where the member is missing.
-abbrev pub updates_in : List Text → List Table → Option Data → Option (List Update)
-updates_in names db None = Some []
-updates_in names db (Some d) = option_and_then (updates_from names db) (elements_within 0 4096 d)
+-- 1 to 16 updates, each on the relations after the ones before it.
+abbrev pub updates_in : List Text → List Table → Data → Option Updates
+updates_in names db d = option_and_then (updates_from names db) (elements_within 1 16 d)
 
--- The updates of a source, on relations of these names.
-abbrev pub source_updates_in : List Text → List Table → Data → Option (List Update)
-source_updates_in names db d = updates_in names db (get (codes "updates") d)
+-- What stands behind `all` in a list of the two.
+abbrev pub behind_all : List Data → Option Data
+behind_all (all ∷ updates ∷ []) = if is_text (codes "all") all then Some updates else None
+behind_all ds = None
 
--- The updates of each source, on the relations after those of the sources before it.
-abbrev pub work_in : List Text → List Table → List Data → Option (List (List Update))
-work_in names db ds = each_after (source_updates_in names) applied db ds
+abbrev pub all_in : Data → Option Data
+all_in d = option_and_then behind_all (elements d)
+
+-- A source transaction is `all` with the list of its updates, or one update alone.
+abbrev pub transaction_or : List Text → List Table → Data → Option Data → Option Updates
+transaction_or names db d None = option_map (λ u. u ∷ []) (update_in names db d)
+transaction_or names db d (Some updates) = updates_in names db updates
+
+abbrev pub transaction_in : List Text → List Table → Data → Option Updates
+transaction_in names db d = transaction_or names db d (all_in d)
+
+-- The transactions, each on the relations after the ones before it.
+abbrev pub transactions_from : List Text → List Table → List Data → Option (List Updates)
+transactions_from names db ds = each_after (transaction_in names) applied db ds
+
+-- Up to 4,096 transactions, of which there are none where the member is missing.
+abbrev pub transactions_in : List Text → List Table → Option Data → Option (List Updates)
+transactions_in names db None = Some []
+transactions_in names db (Some d) = option_and_then (transactions_from names db) (elements_within 0 4096 d)
+
+-- The transactions of a source, on relations of these names.
+abbrev pub source_transactions_in : List Text → List Table → Data → Option (List Updates)
+source_transactions_in names db d = transactions_in names db (get (codes "updates") d)
+
+-- The transactions of each source, on the relations after those of the sources before it.
+abbrev pub work_in : List Text → List Table → List Data → Option (List (List Updates))
+work_in names db ds = each_after (source_transactions_in names) all_applied db ds
 
 -- The relation is as it was, but for this update of relation r.
 abbrev pub IsMadeIn : ℕ → Table → Update → Table → Type 0

@@ -110,7 +110,10 @@ fn is_member_of(form: ObjectForm, name: &str) -> bool
     ensures { result ≡ is_member_of form name.now }
 {
     match form {
-        ObjectForm::Document => matches!(name, "sources" | "views" | "sessions" | "schedule"),
+        ObjectForm::Document => matches!(
+            name,
+            "versions" | "sources" | "views" | "sessions" | "schedule"
+        ),
         ObjectForm::Source => matches!(name, "name" | "relations" | "updates"),
         ObjectForm::Relation => matches!(name, "name" | "columns" | "key" | "rows"),
         ObjectForm::View => matches!(

@@ -1,18 +1,18 @@
 //! Rows and updates of relations.
-ghost use Rattle.std.specs.Prelude.{◌≡◌, ◌≢◌, ◌<◌, ◌≤◌, IfOk, IfErr, OnOk, Some, None, [], map, length, option_and_then};
+ghost use Rattle.std.specs.Prelude.{◌≡◌, ◌≢◌, ◌<◌, ◌≤◌, IfOk, IfErr, OnOk, Some, None, [], fold, map, length, option_and_then};
 ghost use Rattle.std.specs.Option.{option_map};
 ghost use Rattle.serde_json.specs.View.{view};
 ghost use Rattle.serde_json.specs.Find.{as_str};
 ghost use Rattle.whips_model.specs.Tuples.{at_columns, put_row, without_key};
 ghost use Rattle.whips_states.specs.States.{updated, applied, all_applied};
-ghost use Rattle.whips_forms.specs.Rows.{number_in, codes_in, new_row_in, named_row_in, rows_added, rows_in, update_at, update_in, update_of, updates_from, updates_in, work_in, IsMadeIn};
+ghost use Rattle.whips_forms.specs.Rows.{number_in, codes_in, new_row_in, named_row_in, rows_added, rows_in, update_at, update_in, update_of, updates_from, updates_in, all_in, transaction_in, transactions_from, transactions_in, work_in, IsMadeIn};
 
-use crate::json::{elements, elements_within};
+use crate::json::{elements, elements_within, is_text, list_of};
 use crate::relation::read_place;
 use crate::{ReadErr, Text};
 use serde_json::Value;
 use std::alloc::Global;
-use whips_rel::{DeleteErr, InsertErr, Relation, Tuple, Update};
+use whips_rel::{DeleteErr, InsertErr, Relation, Trans, Tuple, Update};
 
 /// The greatest number value.
 const GREATEST: u64 = 999_999_999_999;
@@ -184,21 +184,80 @@ pub fn read_rows(
     Ok(())
 }
 
-/// Makes the updates of a source in the relations, each on the relations after the ones before it. There are none where
-/// the member is missing.
+/// Makes the updates of a list of 1 to 16 in the relations, each on the relations after the ones before it.
 fn read_updates(
     alloc: Global,
     names: &[Text],
     relations: &mut Vec<Relation>,
-    updates: Option<&Value>,
-) -> Result<Vec<Update>, ReadErr>
+    updates: &Value,
+) -> Result<Trans, ReadErr>
     requires names { length names.now ≡ length relations.old.items }
     requires few { length names.now ≤ 32 }
-    ensures ok { IfOk result (λ us. (updates_in names.now relations.old.items
-        (option_map (λ v. view v.now) updates.entry) ≡ Some us.items)
-        × (relations.new.items ≡ applied relations.old.items us.items)) }
+    ensures ok { IfOk result (λ t. (updates_in names.now relations.old.items (view updates.now)
+        ≡ Some t) × (relations.new.items ≡ applied relations.old.items t)) }
     ensures refused { IfErr result (λ e. e ≢ ReadErr.NoMemory
-        → updates_in names.now relations.old.items
+        → updates_in names.now relations.old.items (view updates.now) ≡ None) }
+{
+    let items = elements_within(updates, 1, 16)?;
+    let mut made = Vec::new(alloc);
+    for item in items {
+        made.push(read_update(alloc, names, relations, item)?)?;
+    }
+    Ok(Trans { items: made })
+}
+
+/// What stands behind `all`, where the value is a list of the two.
+fn list_of_all(value: &Value) -> Option<&Value>
+    ensures { option_map (λ v. view v.now) result ≡ all_in (view value.now) }
+{
+    match list_of(value) {
+        Some([kind, updates]) => {
+            if is_text(kind, "all") {
+                return Some(updates);
+            }
+            None
+        }
+        _ => None,
+    }
+}
+
+/// Makes the updates of a transaction in the relations, each on the relations after the ones before it.
+fn read_transaction(
+    alloc: Global,
+    names: &[Text],
+    relations: &mut Vec<Relation>,
+    value: &Value,
+) -> Result<Trans, ReadErr>
+    requires names { length names.now ≡ length relations.old.items }
+    requires few { length names.now ≤ 32 }
+    ensures ok { IfOk result (λ t. (transaction_in names.now relations.old.items (view value.now)
+        ≡ Some t) × (relations.new.items ≡ applied relations.old.items t)) }
+    ensures refused { IfErr result (λ e. e ≢ ReadErr.NoMemory
+        → transaction_in names.now relations.old.items (view value.now) ≡ None) }
+{
+    if let Some(updates) = list_of_all(value) {
+        return read_updates(alloc, names, relations, updates);
+    }
+    let mut items = Vec::with_capacity(alloc, 1)?;
+    items.push(read_update(alloc, names, relations, value)?)?;
+    Ok(Trans { items })
+}
+
+/// Makes the transactions of a source in the relations, each on the relations after the ones before it. There are none
+/// where the member is missing.
+fn read_transactions(
+    alloc: Global,
+    names: &[Text],
+    relations: &mut Vec<Relation>,
+    updates: Option<&Value>,
+) -> Result<Vec<Trans>, ReadErr>
+    requires names { length names.now ≡ length relations.old.items }
+    requires few { length names.now ≤ 32 }
+    ensures ok { IfOk result (λ ts. (transactions_in names.now relations.old.items
+        (option_map (λ v. view v.now) updates.entry) ≡ Some ts.items)
+        × (relations.new.items ≡ all_applied relations.old.items ts.items)) }
+    ensures refused { IfErr result (λ e. e ≢ ReadErr.NoMemory
+        → transactions_in names.now relations.old.items
         (option_map (λ v. view v.now) updates.entry) ≡ None) }
 {
     let mut made = Vec::new(alloc);
@@ -207,30 +266,30 @@ fn read_updates(
     };
     let items = elements_within(updates, 0, 4096)?;
     for item in items {
-        made.push(read_update(alloc, names, relations, item)?)?;
+        made.push(read_transaction(alloc, names, relations, item)?)?;
     }
     Ok(made)
 }
 
-/// Makes the updates of each source in the relations, which have these names, and gives them.
+/// Makes the transactions of each source in the relations, which have these names, and gives them.
 pub fn read_work(
     alloc: Global,
     names: &[Text],
     relations: &mut Vec<Relation>,
     sources: &[Value],
-) -> Result<Vec<Vec<Update>>, ReadErr>
+) -> Result<Vec<Vec<Trans>>, ReadErr>
     requires names { length names.now ≡ length relations.old.items }
     requires few { length names.now ≤ 32 }
     ensures ok { IfOk result (λ work. (work_in names.now relations.old.items (map view sources.now)
-        ≡ Some (map (λ us. us.items) work.items))
-        × (relations.new.items ≡ all_applied relations.old.items
-        (map (λ us. us.items) work.items))) }
+        ≡ Some (map (λ ts. ts.items) work.items))
+        × (relations.new.items ≡ fold all_applied relations.old.items
+        (map (λ ts. ts.items) work.items))) }
     ensures refused { IfErr result (λ e. e ≢ ReadErr.NoMemory
         → work_in names.now relations.old.items (map view sources.now) ≡ None) }
 {
     let mut work = Vec::new(alloc);
     for source in sources {
-        work.push(read_updates(alloc, names, relations, source.get("updates"))?)?;
+        work.push(read_transactions(alloc, names, relations, source.get("updates"))?)?;
     }
     Ok(work)
 }

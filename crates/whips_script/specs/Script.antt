@@ -7,21 +7,20 @@ use Rattle.serde_json.specs.Find.{get}
 use Rattle.whips_flow.specs.declared.event.Event.{Event}
 use Rattle.whips_model.specs.Tuples.{Columns}
 use Rattle.whips_model.specs.Relation.{Table}
-use Rattle.whips_rel.specs.declared.update.Update.{Update}
 use Rattle.whips_states.specs.States.{Updates}
-use Rattle.whips_view.specs.ViewDefs.{view_of}
+use Rattle.whips_view.specs.ViewDefs.{view_of, is_within}
 use Rattle.whips_facts.specs.Scripts.{Script, Labels}
 use Rattle.whips_view.specs.Refusals.{refusal_of}
 use Rattle.whips_setup.specs.Setups.{SetupData, setup_of}
 use Rattle.whips_setup.specs.Refusals.{setup_refusal}
-use Rattle.whips_setup.specs.Workloads.{work_refusal, one_each}
+use Rattle.whips_setup.specs.Workloads.{work_refusal}
 use Rattle.whips_script.specs.declared.Refusal.{Refusal}
 use Rattle.whips_script.specs.declared.Refusal.TheVariants.{Syntax, Unbuilt}
 use Rattle.whips_forms.specs.declared.json.ObjectForm.TheVariants.{Document}
-use Rattle.whips_forms.specs.Json.{Text, document, elements, member_in, is_object_of}
+use Rattle.whips_forms.specs.Json.{Text, document, only, elements, member_in, is_object_of}
 use Rattle.whips_forms.specs.Names.{are_distinct}
 use Rattle.whips_forms.specs.Forms.{is_member_of}
-use Rattle.whips_forms.specs.Rows.{work_in}
+use Rattle.whips_forms.specs.Rows.{number_in, work_in}
 use Rattle.whips_forms.specs.Relations.{SourcesForm, sources_in}
 use Rattle.whips_view_forms.specs.Views.{ViewForm, views_in}
 use Rattle.whips_schedule_forms.specs.Schedules.{PlanForm, plan_in}
@@ -55,8 +54,8 @@ abbrev pub are_views_over : List Columns → List ViewForm → Bool
 are_views_over schemas vs = list_all (λ v. not (is_some (refusal_of schemas v.parts))) vs
 
 -- Whether the setup with these views, and its workload, are refused by nothing.
-abbrev pub is_accepted : SourcesForm → List (List Update) → List ViewForm → Bool
-is_accepted ss work vs = not (is_some (setup_refusal (schemas_of ss) (setup_with ss vs))) && not (is_some (work_refusal (setup_with ss vs) (one_each work)))
+abbrev pub is_accepted : SourcesForm → List (List Updates) → List ViewForm → Bool
+is_accepted ss work vs = not (is_some (setup_refusal (schemas_of ss) (setup_with ss vs))) && not (is_some (work_refusal (setup_with ss vs) work))
 
 -- The names of sources, views and sessions, where no text is a value.
 abbrev pub labels_of : (sources views sessions : List Text) → Labels
@@ -70,15 +69,15 @@ named_script setup work labels events = record {
   events = events;
 }
 
--- The script with no sessions and no events.
-abbrev pub script_with : SourcesForm → List (List Update) → List ViewForm → NamedScript
-script_with ss work vs = named_script (setup_with ss vs) (one_each work) (labels_of ss.names (map (λ v. v.name) vs) []) []
+-- The script of these sources and views, of which two versions stay readable, with no sessions and no events.
+abbrev pub script_with : SourcesForm → List (List Updates) → List ViewForm → NamedScript
+script_with ss work vs = named_script (setup_with ss vs) work (labels_of ss.names (map (λ v. v.name) vs) []) []
 
--- The script of the sources with their updates, each a transaction of its own, and of the views, where names differ and nothing is refused. Sessions and events come later.
-abbrev pub script_if : SourcesForm → List (List Update) → List ViewForm → Option NamedScript
+-- The script of the sources with their transactions, and of the views, where names differ and nothing is refused. The number of versions, sessions and events come later.
+abbrev pub script_if : SourcesForm → List (List Updates) → List ViewForm → Option NamedScript
 script_if ss work vs = if have_names ss vs && are_views_over (schemas_of ss) vs && is_accepted ss work vs then Some (script_with ss work vs) else None
 
-abbrev pub script_views : Data → SourcesForm → List (List Update) → Option NamedScript
+abbrev pub script_views : Data → SourcesForm → List (List Updates) → Option NamedScript
 script_views d ss work = option_and_then (script_if ss work) (member_in (codes "views") (views_in ss.relations ss.homes) d)
 
 abbrev pub script_work : Data → SourcesForm → List Data → Option NamedScript
@@ -90,9 +89,25 @@ script_after d sources ss = option_and_then (script_work d ss) (elements sources
 abbrev pub script_sources : Data → Data → Option NamedScript
 script_sources d sources = option_and_then (script_after d sources) (sources_in sources)
 
--- The script of the sources and views of a document, with no sessions and no events.
+-- The script of the sources and views of a document, of which two versions stay readable, with no sessions and no events.
 abbrev pub script_from_sources : Data → Option NamedScript
 script_from_sources d = option_and_then (script_sources d) (get (codes "sources") d)
+
+-- How many versions stay readable, which are two where the script doesn't say.
+abbrev pub default_versions : ℕ
+default_versions = 2
+
+-- 2 to 4 of them.
+abbrev pub versions_of : Option Data → Option ℕ
+versions_of None = Some default_versions
+versions_of (Some d) = only (is_within 2 4) (number_in d)
+
+abbrev pub versions_in : Data → Option ℕ
+versions_in d = versions_of (get (codes "versions") d)
+
+-- The script of which this many versions stay readable.
+abbrev pub with_versions : NamedScript → ℕ → NamedScript
+with_versions s n = named_script (record s.script.setup { versions = n }) s.script.work s.labels s.events
 
 -- The script with these sessions and events.
 abbrev pub planned : NamedScript → PlanForm → NamedScript
@@ -101,9 +116,13 @@ planned s plan = named_script s.script.setup s.script.work (labels_of s.labels.s
 abbrev pub script_plan : Data → NamedScript → Option NamedScript
 script_plan d s = option_map (planned s) (plan_in s.labels.sources s.labels.views d)
 
--- A script is an object with `sources`, `views`, and perhaps `sessions` and `schedule`.
+-- The script of a document, of which this many versions stay readable.
+abbrev pub script_versions : Data → ℕ → Option NamedScript
+script_versions d n = option_and_then (λ s. script_plan d (with_versions s n)) (script_from_sources d)
+
+-- A script is an object with `sources`, `views`, and perhaps `versions`, `sessions` and `schedule`.
 abbrev pub script_in : Data → Option NamedScript
-script_in d = if is_object_of (is_member_of Document) d then option_and_then (script_plan d) (script_from_sources d) else None
+script_in d = if is_object_of (is_member_of Document) d then option_and_then (script_versions d) (versions_in d) else None
 
 abbrev pub script_from : Option Data → Result NamedScript Refusal
 script_from None = Err Syntax

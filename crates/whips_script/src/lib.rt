@@ -1,8 +1,7 @@
 //! Reads a script: the bytes of a JSON text become relations, transactions and views, or are refused.
 //!
-//! Number columns alone are read, no transactions of several updates, and no schedules with a start and a number of
-//! steps. A text with a form that isn't read, or one that is wrong in another way, is refused as `Unbuilt`, and one that
-//! is no JSON as `Syntax`.
+//! Number columns alone are read, and no schedules with a start and a number of steps. A text with a form that isn't
+//! read, or one that is wrong in another way, is refused as `Unbuilt`, and one that is no JSON as `Syntax`.
 #![tactic(auto)]
 
 ghost use Rattle.whips_flow.specs.declared.event.Event.{Event};

@@ -1,14 +1,38 @@
 //! The parts of a setup, made from what was read.
-ghost use Rattle.std.specs.Prelude.{◌≡◌, ◌≢◌, true, false, None, IfOk, IfErr, is_some, map};
+ghost use Rattle.std.specs.Prelude.{◌≡◌, ◌≢◌, true, false, None, Some, IfOk, IfErr, is_some, map};
+ghost use Rattle.std.specs.Option.{option_map};
+ghost use Rattle.serde_json.specs.View.{view};
 ghost use Rattle.whips_view.specs.Refusals.{refusal_of};
-ghost use Rattle.whips_view.specs.ViewDefs.{view_of};
-ghost use Rattle.whips_script.specs.Script.{are_views_over};
+ghost use Rattle.whips_view.specs.ViewDefs.{is_within, view_of};
+ghost use Rattle.whips_script.specs.Script.{are_views_over, versions_of};
 
+use serde_json::Value;
 use std::alloc::Global;
-use whips_forms::{ReadErr, RelationForm, Text};
+use whips_forms::{ReadErr, RelationForm, Text, read_number};
 use whips_rel::{Relation, Schema};
 use whips_view::{ViewDef, ViewErr};
 use whips_view_forms::ViewForm;
+
+/// How many versions stay readable where the script doesn't say.
+const DEFAULT_VERSIONS: u32 = 2;
+
+/// How many versions stay readable, 2 to 4.
+pub(crate) fn read_versions(versions: Option<&Value>) -> Result<u32, ReadErr>
+    ensures within { IfOk result (λ n. is_within 2 4 n ≡ true) }
+    ensures ok { IfOk result (λ n. versions_of (option_map (λ v. view v.now) versions.entry)
+        ≡ Some n) }
+    ensures refused { IfErr result (λ e. e ≢ ReadErr.NoMemory
+        → versions_of (option_map (λ v. view v.now) versions.entry) ≡ None) }
+{
+    let Some(value) = versions else {
+        return Ok(DEFAULT_VERSIONS);
+    };
+    let number = read_number(value)?;
+    if 2 <= number && number <= 4 {
+        return Ok(number as u32);
+    }
+    Err(ReadErr::Unbuilt)
+}
 
 /// The names of the relations.
 pub(crate) fn relation_names(

@@ -1,14 +1,17 @@
 //! A script.
 ghost use Rattle.std.specs.Prelude.{◌≡◌, ◌≢◌, ◌≤◌, true, false, IfOk, IfErr, OnOk, Some, None, Ok, is_some, map, length};
 ghost use Rattle.serde_json.specs.View.{view};
+ghost use Rattle.whips_view.specs.ViewDefs.{is_within};
 ghost use Rattle.whips_setup.specs.Setups.{setup_of};
 ghost use Rattle.whips_setup.specs.Refusals.{setup_refusal, IsSetup};
-ghost use Rattle.whips_setup.specs.Workloads.{work_refusal, one_each, IsWorkload};
+ghost use Rattle.whips_setup.specs.Workloads.{work_refusal, IsWorkload};
 ghost use Rattle.whips_script.specs.Refusals.{IsRefusalOf};
-ghost use Rattle.whips_script.specs.Script.{labels_of, named_script, initial_of, are_all_distinct, script_if, script_work, script_from_sources, planned, script_in, script_of};
+ghost use Rattle.whips_script.specs.Script.{labels_of, named_script, initial_of, are_all_distinct, script_if, script_work, script_from_sources, planned, script_in, script_of, with_versions};
 
 use crate::Refusal;
-use crate::made::{MadeViews, initial_relations, make_views, relation_names, schemas_of};
+use crate::made::{
+    MadeViews, initial_relations, make_views, read_versions, relation_names, schemas_of,
+};
 use serde_json::Value;
 use std::alloc::Global;
 use std::marker::Model;
@@ -17,12 +20,13 @@ use whips_forms::{
     ObjectForm, ReadErr, Sources, Text, are_distinct, elements, is_object_of, member, parse,
     read_sources, read_work,
 };
-use whips_rel::Update;
+use whips_rel::Trans;
 use whips_schedule_forms::{PlanForm, read_plan};
-use whips_setup::{Setup, SetupErr, WorkErr, Workload};
+use whips_setup::{BatchErr, Setup, SetupErr, Workload};
 use whips_view_forms::{ViewForm, read_views};
 
-/// A script: sources with relations of number columns, their updates, views, sessions, and the events of its schedule.
+/// A script: sources with relations of number columns, their transactions, views, sessions, and the events of its
+/// schedule.
 #[derive(Drop)]
 pub struct Script {
     sources: Vec<Text>,
@@ -65,6 +69,32 @@ impl Script {
         ensures { result.now ≡ self.now.labels.sessions }
     {
         &self.sessions
+    }
+
+    /// The script of whose setup this many versions stay readable, 2 to 4.
+    fn with_versions(self, n: u32) -> Result<Script, ReadErr>
+        ensures made { IfOk result (λ s. s ≡ with_versions self n) }
+        ensures limit { IfErr result (λ e. is_within 2 4 n ≡ false) }
+    {
+        let Script {
+            sources,
+            setup,
+            work,
+            views,
+            sessions,
+            events,
+        } = self;
+        match setup.with_versions(n) {
+            Ok(setup) => Ok(Script {
+                sources,
+                setup,
+                work,
+                views,
+                sessions,
+                events,
+            }),
+            Err(_) => Err(ReadErr::Unbuilt),
+        }
     }
 
     /// The script with these sessions and events.
@@ -149,16 +179,16 @@ fn make_setup(
     }
 }
 
-/// The workload of these updates, each a transaction of its own, where nothing refuses it.
-fn make_work(alloc: Global, setup: &Setup, work: Vec<Vec<Update>>) -> Result<Workload, ReadErr>
-    ensures ok { IfOk result (λ w. (w ≡ one_each (map (λ us. us.items) work.items))
+/// The workload of these transactions, where nothing refuses it.
+fn make_work(setup: &Setup, work: Vec<Vec<Trans>>) -> Result<Workload, ReadErr>
+    ensures ok { IfOk result (λ w. (w ≡ map (λ ts. ts.items) work.items)
         × IsWorkload setup.now w) }
     ensures refused { IfErr result (λ e. e ≢ ReadErr.NoMemory
-        → is_some (work_refusal setup.now (one_each (map (λ us. us.items) work.items))) ≡ true) }
+        → is_some (work_refusal setup.now (map (λ ts. ts.items) work.items)) ≡ true) }
 {
-    match Workload::make(alloc, setup, work) {
+    match Workload::batched(setup, work) {
         Ok(work) => Ok(work),
-        Err(WorkErr::NoMemory) => Err(ReadErr::NoMemory),
+        Err(BatchErr::NoMemory) => Err(ReadErr::NoMemory),
         Err(_) => Err(ReadErr::Unbuilt),
     }
 }
@@ -175,27 +205,27 @@ fn check_names(sources: &[Text], relations: &[Text], views: &[Text]) -> Result<(
     Err(ReadErr::Unbuilt)
 }
 
-/// The script of these sources, updates and views, where names differ and nothing is refused, with no session and no
-/// event.
+/// The script of these sources, transactions and views, where names differ and nothing is refused, with two versions
+/// that stay readable, no session and no event.
 fn make_script(
     alloc: Global,
     sources: Sources,
     names: Vec<Text>,
-    work: Vec<Vec<Update>>,
+    work: Vec<Vec<Trans>>,
     views: Vec<ViewForm>,
 ) -> Result<Script, ReadErr>
     requires names { names.items ≡ map (λ r. r.name) sources.relations }
     requires few { length sources.names ≤ 8 }
-    ensures ok { IfOk result (λ s. script_if sources (map (λ us. us.items) work.items) views.items
+    ensures ok { IfOk result (λ s. script_if sources (map (λ ts. ts.items) work.items) views.items
         ≡ Some s) }
     ensures refused { IfErr result (λ e. e ≢ ReadErr.NoMemory
-        → script_if sources (map (λ us. us.items) work.items) views.items ≡ None) }
+        → script_if sources (map (λ ts. ts.items) work.items) views.items ≡ None) }
 {
     let schemas = schemas_of(alloc, &sources.relations)?;
     let made = make_views(alloc, &schemas, views)?;
     check_names(&sources.names, &names, &made.names)?;
     let setup = make_setup(alloc, &sources, made.defs, made.slots)?;
-    let work = make_work(alloc, &setup, work)?;
+    let work = make_work(&setup, work)?;
     Ok(Script {
         sources: sources.names,
         setup,
@@ -206,7 +236,7 @@ fn make_script(
     })
 }
 
-/// The script of these sources, with the updates that the elements have, and of the views of the document.
+/// The script of these sources, with the transactions that the elements have, and of the views of the document.
 fn read_rest(
     alloc: Global,
     document: &Value,
@@ -248,7 +278,8 @@ fn read_value(alloc: Global, value: &Value) -> Result<Script, ReadErr>
     if !is_object_of(value, ObjectForm::Document) {
         return Err(ReadErr::Unbuilt);
     }
-    let script = read_base(alloc, value)?;
+    let versions = read_versions(value.get("versions"))?;
+    let script = read_base(alloc, value)?.with_versions(versions)?;
     let plan = read_plan(alloc, script.sources(), script.views(), value)?;
     Ok(script.with_plan(plan))
 }
