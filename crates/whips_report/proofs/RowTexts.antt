@@ -1,15 +1,15 @@
--- The text of rows and of a record. A row's values grow by pairs of a code and a kind (data_more, data_all), rows by one (row_more) or by a chunk (chunk_more). The kinds that a view's rows are shown with are those of its schema (lines_same). So a record's text is its first line and the text of its rows (record_parts).
-use Rattle.std.proofs.Common.{◌≡◌, ℕ, ◌+◌, ◌<◌, false, List, [], ◌∷◌, ◌++◌, length, take, map, get_or, min, refl, ap, sym, ◌∙◌, append_assoc, append-nil, Option, Some, None}
+-- The text of rows and of a record. A row's values grow by pairs of a code and a kind (data_more, data_all), and what is written of them by a comma and a value (value_more), to the whole line (row_whole); rows grow by one (row_more) or by a chunk (chunk_more). The kinds that a view's rows are shown with are those of its schema (lines_same). So a record's text is its first line and the text of its rows (record_parts).
+use Rattle.std.proofs.Common.{◌≡◌, ℕ, ◌+◌, ◌<◌, Bool, true, false, codes, List, [], ◌∷◌, ◌++◌, length, take, map, get_or, min, refl, ap, sym, ◌∙◌, append_assoc, append-nil, Option, Some, None}
 use Rattle.std.proofs.lemmas.Grind.{flat_map-append}
 use Rattle.std.proofs.lemmas.List.{map-append, take_more}
 use Rattle.std.specs.List.{zip, slice_get}
 use Rattle.std.specs.Option.{unwrap_or}
-use Rattle.serde_json.specs.Data.{Data, array}
+use Rattle.serde_json.specs.Data.{Data}
 use Rattle.serde_json.specs.View.{items_of}
-use Rattle.serde_json.specs.Written.{has_float}
+use Rattle.serde_json.specs.Written.{comma_if, compact_text, items_text}
 use Rattle.whips_lists.proofs.Lists.{take_next}
 use Rattle.whips_model.specs.declared.Kind.{Kind}
-use Rattle.whips_model.specs.declared.Kind.TheVariants.{Number, Text}
+use Rattle.whips_model.specs.declared.Kind.TheVariants.{Number}
 use Rattle.whips_model.specs.declared.ColRef.{ColRef}
 use Rattle.whips_model.specs.Tuples.{Codes, Columns}
 use Rattle.whips_rel.specs.Chunks.{joined}
@@ -46,13 +46,47 @@ data_more l kinds row i n code kind before after next turn so_far step =
 pub data_all : (l : Labels) (kinds : List Kind) (row : Codes) (n : ℕ) → n ≡ min (length row) (length kinds) → row_data l (map (λ k. Some k) (take n kinds)) (take n row) ≡ row_data l (map (λ k. Some k) kinds) row
 data_all l kinds row n end = rw (data_are_pairs l (take n kinds) (take n row), pairs_all row kinds n end) (sym (data_are_pairs l kinds row))
 
--- no value is a float
-pub no_float : (l : Labels) (kinds : List (Option Kind)) (row : Codes) → has_float (array (items_of (row_data l kinds row))) ≡ false
-no_float l [] row = refl
-no_float l (k ∷ kinds) [] = refl
-no_float l (None ∷ kinds) (c ∷ row) = no_float l kinds row
-no_float l (Some Number ∷ kinds) (c ∷ row) = no_float l kinds row
-no_float l (Some Text ∷ kinds) (c ∷ row) = no_float l kinds row
+-- ---- the line of a row
+
+-- whether values stand before
+abbrev pub some_before : List Data → Bool
+some_before [] = false
+some_before (d ∷ ds) = true
+
+-- values with commas between, behind others where some stand before
+abbrev pub listed : Bool → List Data → Bytes
+listed later [] = []
+listed later (d ∷ ds) = comma_if later ++ (compact_text d ++ listed true ds)
+
+some_more : (ds : List Data) (d : Data) → some_before (ds ++ d ∷ []) ≡ true
+some_more [] d = refl
+some_more (e ∷ ds) d = refl
+
+listed_behind : (ds : List Data) (d : Data) → listed true (ds ++ d ∷ []) ≡ listed true ds ++ (comma_if true ++ compact_text d)
+listed_behind [] d = ap (λ t. comma_if true ++ t) (append-nil (compact_text d))
+listed_behind (e ∷ ds) d = ap (λ t. comma_if true ++ (compact_text e ++ t)) (listed_behind ds d) ∙ ap (λ t. comma_if true ++ t) (sym (append_assoc (compact_text e) (listed true ds) (comma_if true ++ compact_text d)))
+
+listed_more : (ds : List Data) (d : Data) → listed false (ds ++ d ∷ []) ≡ listed false ds ++ (comma_if (some_before ds) ++ compact_text d)
+listed_more [] d = append-nil (compact_text d)
+listed_more (e ∷ ds) d = ap (λ t. compact_text e ++ t) (listed_behind ds d) ∙ sym (append_assoc (compact_text e) (listed true ds) (comma_if true ++ compact_text d))
+
+-- one value more, behind a text
+pub value_more : (ds all : List Data) (d : Data) (later : Bool) (start before comma after : Bytes) → ds ++ d ∷ [] ≡ all → later ≡ some_before ds
+    → before ≡ start ++ listed false ds → comma ≡ before ++ comma_if later → after ≡ comma ++ compact_text d → (true ≡ some_before all) × (after ≡ start ++ listed false all)
+value_more ds all d later start before comma after is some so_far at step = (
+  sym (some_more ds d) ∙ ap some_before is,
+  rw (step, at, so_far, some, ← is, listed_more ds d) (append_assoc (start ++ listed false ds) (comma_if (some_before ds)) (compact_text d) ∙ append_assoc start (listed false ds) (comma_if (some_before ds) ++ compact_text d)),
+)
+
+-- a list in JSON is its values with commas between, and its closing bracket
+items_listed : (later : Bool) (ds : List Data) → items_text later (items_of ds) ≡ listed later ds ++ 93 ∷ []
+items_listed later [] = refl
+items_listed later (d ∷ ds) = ap (λ t. comma_if later ++ (compact_text d ++ t)) (items_listed true ds) ∙ simp append_assoc
+
+-- all of a row's line, behind a text
+pub row_whole : (l : Labels) (kinds : List Kind) (row : Codes) (ds : List Data) (old start before after : Bytes) → ds ≡ row_data l (map (λ k. Some k) kinds) row
+    → start ≡ old ++ codes "row [" → before ≡ start ++ listed false ds → after ≡ before ++ codes "]\n" → after ≡ old ++ rows_text l kinds (row ∷ [])
+row_whole l kinds row ds old start before after is at so_far step = rw (step, so_far, at, ← is, items_listed false ds) (simp append_assoc)
 
 -- ---- the text of rows
 

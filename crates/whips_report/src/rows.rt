@@ -1,12 +1,12 @@
 //! The lines of rows.
-ghost use Rattle.std.specs.Prelude.{◌≡◌, ◌∷◌, ◌++◌, [], IfOk, OnOk, string_bytes, map, slice_get, Some};
-ghost use Rattle.serde_json.specs.Data.{array};
-ghost use Rattle.serde_json.specs.View.{view, items_of};
-ghost use Rattle.serde_json.specs.Written.{compact_text};
-ghost use Rattle.whips_reports.specs.Lines.{value_data, row_data};
+ghost use Rattle.std.specs.Prelude.{◌≡◌, ◌∷◌, ◌++◌, [], IfOk, OnOk, string_bytes, slice_get, Some};
+ghost use Rattle.serde_json.specs.Data.{string};
+ghost use Rattle.serde_json.specs.Written.{compact_text, comma_if};
+ghost use Rattle.whips_reports.specs.Lines.{value_data};
 ghost use Rattle.whips_report.specs.Texts.{row_kinds, rows_text};
 
 use crate::Labels;
+use itoa::Buffer;
 use serde_json::Value;
 use std::alloc::{AllocError, Global};
 use whips_rel::{Kind, Rows, Tuple};
@@ -24,49 +24,37 @@ pub(crate) fn row_kinds(setup: &Setup, x: u32) -> &[Kind]
     }
 }
 
-/// A code as a JSON value: a number is its own code, and a text is the one with this code.
-fn code_value(alloc: Global, code: u64, kind: Kind, labels: &Labels) -> Result<Value, AllocError>
-    ensures { IfOk result (λ value. view value ≡ value_data labels.now code (Some kind)) }
+/// A text as JSON.
+fn text_json(alloc: Global, text: &str) -> Result<String, AllocError>
+    ensures { IfOk result (λ json. string_bytes json ≡ compact_text (string text.now)) }
 {
-    match kind {
-        Kind::Number => Ok(Value::from(code)),
-        Kind::Text => Ok(Value::String(String::from_str(alloc, labels.text(code))?)),
-    }
-}
-
-/// A row as a JSON list.
-fn row_value(
-    alloc: Global,
-    row: &[u64],
-    kinds: &[Kind],
-    labels: &Labels,
-) -> Result<Value, AllocError>
-    ensures { IfOk result (λ value. view value
-        ≡ array (items_of (row_data labels.now (map (λ k. Some k) kinds.now) row.now))) }
-{
-    let mut values = Vec::with_capacity(alloc, row.len())?;
-    for (code, kind) in row.iter().zip(kinds) {
-        values.push(code_value(alloc, *code, *kind, labels)?)?;
-    }
-    Ok(Value::Array(values))
-}
-
-/// A row as compact JSON.
-fn row_json(
-    alloc: Global,
-    row: &[u64],
-    kinds: &[Kind],
-    labels: &Labels,
-) -> Result<String, AllocError>
-    ensures { IfOk result (λ json. string_bytes json ≡ compact_text
-        (array (items_of (row_data labels.now (map (λ k. Some k) kinds.now) row.now)))) }
-{
-    let value = row_value(alloc, row, kinds, labels)?;
+    let value = Value::String(String::from_str(alloc, text)?);
     let json = value.to_string(alloc)?;
     Ok(json)
 }
 
-/// The line of a row.
+/// A code as JSON: a number is its own code, and a text is the one with this code.
+fn push_code(text: &mut String, code: u64, kind: Kind, labels: &Labels) -> Result<(), AllocError>
+    ensures { OnOk result (string_bytes text.new
+        ≡ string_bytes text.old ++ compact_text (value_data labels.now code (Some kind))) }
+{
+    match kind {
+        Kind::Number => text.push_str(Buffer::new().format(code)),
+        Kind::Text => {
+            let json = text_json(*text.allocator(), labels.text(code))?;
+            text.push_str(json.as_str())
+        }
+    }
+}
+
+/// A comma, where something stands before.
+fn push_comma(text: &mut String, later: bool) -> Result<(), AllocError>
+    ensures { OnOk result (string_bytes text.new ≡ string_bytes text.old ++ comma_if later) }
+{
+    if later { text.push(',') } else { Ok(()) }
+}
+
+/// The line of a row. A row of numbers takes no memory but that of the text.
 fn push_row(
     text: &mut String,
     row: &[u64],
@@ -76,8 +64,14 @@ fn push_row(
     ensures { OnOk result (string_bytes text.new
         ≡ string_bytes text.old ++ rows_text labels.now kinds.now (row.now ∷ [])) }
 {
-    let json = row_json(*text.allocator(), row, kinds, labels)?;
-    writeln!(text, "row {json}")
+    text.push_str("row [")?;
+    let mut later = false;
+    for (code, kind) in row.iter().zip(kinds) {
+        push_comma(text, later)?;
+        push_code(text, *code, *kind, labels)?;
+        later = true;
+    }
+    text.push_str("]\n")
 }
 
 /// The lines of the rows of a chunk.
