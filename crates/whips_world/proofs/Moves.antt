@@ -31,7 +31,7 @@ use Rattle.whips_reports.specs.Reported.{reported}
 use Rattle.whips_stage_laws.proofs.Setups.{view_there, slotted_long}
 use Rattle.whips_writer_laws.specs.Needs.{AreViewsOf, full_of}
 use Rattle.whips_contents.specs.Contents.{LoadedPipeline, start_loaded}
-use Rattle.whips_contents.specs.Events.{begin_refusal, is_enabled_loaded, is_full_for, next_loaded, step_loaded, after_loaded}
+use Rattle.whips_contents.specs.Events.{begin_refusal, is_enabled_loaded, is_full_for, next_loaded, step_loaded}
 use Rattle.whips_value_laws.proofs.Whole.{has_all}
 use Rattle.whips_headline_laws.specs.Headline.{whole_cut}
 use Rattle.whips_headline_laws.proofs.Counts.{same_versions}

@@ -5,31 +5,31 @@
 -- The idea: the core's numbers are the machine's, so the same events are allowed; an event of a session leaves the pipeline, and what it reads is the view's value at the cut of its version, since the store is faithful to these values.
 --
 -- Two lemmas carry it: `allowed_is` (the same events are allowed) and `fetch_reports` (what is told of a fetch is what the run reports).
-use Rattle.std.proofs.Common.{◌≡◌, ℕ, zero, suc, ◌+◌, ◌*◌, ◌/◌, ◌<◌, ◌≤◌, Bool, true, false, ◌&&◌, List, [], ◌∷◌, ◌++◌, length, take, drop, replicate, append-nil, Option, Some, None, cond, refl, sym, ap, ap₂, subst, ◌∙◌, arith, inl}
-use Rattle.std.specs.Prelude.{map, min, nat_lt, is_some, slice_get, slice_index, slice_index_or, IsSome}
+use Rattle.std.proofs.Common.{◌≡◌, ℕ, zero, suc, ◌+◌, ◌/◌, ◌<◌, ◌≤◌, Bool, true, false, ◌&&◌, List, [], ◌∷◌, ◌++◌, length, take, drop, replicate, append-nil, Option, Some, None, refl, sym, ap, ap₂, subst, ◌∙◌, arith, inl}
+use Rattle.std.specs.Prelude.{map, nat_lt, is_some, slice_get, slice_index, slice_index_or, IsSome}
 use Rattle.std.proofs.lemmas.Bool.{and_parts, ltb-true}
 use Rattle.std.proofs.lemmas.List.{take-append-le, take_all}
 use Rattle.whips_lists.specs.Lists.{changed_at}
 use Rattle.whips_flow.specs.Facts.{Facts, Shortage}
 use Rattle.whips_flow.specs.Events.{is_pipeline_event}
 use Rattle.whips_flow.specs.State.{version_cuts}
-use Rattle.whips_flow.specs.Progress.{shortage_at, next}
+use Rattle.whips_flow.specs.Progress.{shortage_at}
 use Rattle.whips_flow.specs.declared.event.Event.{Event}
 use Rattle.whips_flow.specs.declared.event.Event.TheVariants.{Commit, Answer, Integrate, Manage, Rel, Act, Begin, Change, Publish, SessionOpen, SessionScan, SessionFetch, SessionClose}
-use Rattle.whips_runs.specs.Sessions.{Session, Scan, not_open, open_at, with_new_scan, slots_of, visited_scan, is_not_open, is_open, scan_of}
-use Rattle.whips_runs.specs.Records.{RunRecord, skip, opened, more, read, expired, full}
-use Rattle.whips_runs.specs.World.{World, phase_of, is_allowed, with_record, with_session, after_event, after_open, after_scan, after_pipeline_event, after_turn, after_listed_plan, start_world, finished_world}
+use Rattle.whips_runs.specs.Sessions.{Scan, not_open, open_at, slots_of, visited_scan, is_not_open, is_open, scan_of}
+use Rattle.whips_runs.specs.Records.{skip, opened}
+use Rattle.whips_runs.specs.World.{World, phase_of, is_allowed, with_record, with_session, after_event, after_open, after_scan, after_pipeline_event, after_listed_plan, start_world, finished_world}
 use Rattle.whips_run_laws.proofs.Reaches.{enabled_allowed}
 use Rattle.whips_setup.specs.Setups.{SetupData}
-use Rattle.whips_facts.specs.Scripts.{Script, SlottedView, slotted_views, value_at, view_at}
+use Rattle.whips_facts.specs.Scripts.{SlottedView, slotted_views, value_at, view_at}
 use Rattle.whips_facts.specs.ScriptFacts.{facts_of}
-use Rattle.whips_store.specs.Stores.{ViewState, StoreState, view_in, no_view}
+use Rattle.whips_store.specs.Stores.{ViewState, StoreState, no_view}
 use Rattle.whips_faithful_laws.specs.Scans.{IsLater}
 use Rattle.whips_writer_laws.specs.Needs.{AreViewsOf, cut_of_version, values_at}
 use Rattle.whips_row_buf.specs.Buffers.{Buffer}
 use Rattle.whips_session.specs.declared.session.Fetched.{Fetched}
 use Rattle.whips_session.specs.declared.session.Fetched.TheVariants.{More, Done, Expired}
-use Rattle.whips_session.specs.Sessions.{OpenSession, scan_in, state_of, scan_after, IsVisit}
+use Rattle.whips_session.specs.Sessions.{scan_in, state_of, scan_after, IsVisit}
 use Rattle.whips_session.specs.Laws.{record_of}
 use Rattle.whips_session.proofs.Fetches.{events}
 use Rattle.whips_session_laws.specs.Readers.{slots_in, IsReader}
@@ -38,7 +38,6 @@ use Rattle.whips_contents.specs.Contents.{start_loaded}
 use Rattle.whips_contents.specs.Events.{is_enabled_loaded, is_full_for, step_loaded}
 use Rattle.whips_reports.specs.Reported.{Reported, reported, rows_of}
 use Rattle.whips_headline_laws.proofs.Told.{Told, event_told, skip_told}
-use Rattle.whips_headline_laws.proofs.Meets.{line_of}
 use Rattle.whips_core_laws.specs.Core.{loaded_after, Carries}
 use Rattle.whips_core_laws.proofs.Calls.{after_more}
 use Rattle.whips_core_laws.proofs.Carried.{stores_go_on}
@@ -46,13 +45,12 @@ use Rattle.whips_core.specs.Cores.{CoreData}
 use Rattle.whips_report.specs.Told.{Telling, TellsOn, FailsLater}
 use Rattle.whips_report.specs.Recs.{alone}
 use Rattle.whips_world.specs.Lines.{event_lines}
-use Rattle.whips_world.specs.Readers.{session_in, session_of, IsReaderIn, AreReaders, is_allowed_here, opened_session, open_line, rows_read, fetch_line, HasBegunScan, HasFetchedFrom, ChangedAt}
-use Rattle.whips_world.specs.Runs.{IsFirstPart, Start, Moment, whole, IsAt, IsOnPlan, IsTurned, IsOnWay, IsDrained, IsBegun, TellsPart}
-use Rattle.whips_world.specs.declared.readers.Reader.{Reader}
+use Rattle.whips_world.specs.Readers.{ReaderData, closed_reader, session_in, session_of, IsReaderIn, AreReaders, is_allowed_here, opened_session, open_line, rows_read, fetch_line, HasBegunScan, HasFetchedFrom, ChangedAt}
+use Rattle.whips_world.specs.Runs.{IsFirstPart, Start, Moment, whole, IsAt, IsOnPlan, IsTurned, IsOnWay, IsBegun, TellsPart}
 use Rattle.whips_world.proofs.Grows.{grows_same, skip_grows, rest_grows}
 use Rattle.whips_world.proofs.Drains.{turn_done, turn_skipped, plan_full, finished_here}
 use Rattle.whips_world.proofs.Moves.{store_long, carries, enabled_is, event_reports, event_full, event_at, slots_long}
-use Rattle.whips_world.proofs.Reading.{map_there, all_there, reader_there, closed, none_open, readers_stay, readers_open, readers_close, readers_scan, readers_fetch}
+use Rattle.whips_world.proofs.Reading.{map_there, all_there, reader_there, none_open, readers_stay, readers_open, readers_close, readers_scan, readers_fetch}
 
 -- ---- the machine's sessions
 
@@ -256,7 +254,7 @@ module _ {K : Type 0} (told : Telling K) (on : TellsOn told) (a : Start K) (m : 
   }
 
   quiet_turn : is_allowed (facts_of a.script) h.run e ≡ true → (z : World) → after_event (facts_of a.script) e h.run ≡ z → z.pipeline ≡ h.run.pipeline → z.is_full ≡ h.run.is_full
-      → (l : K) (lines : List Reported) → reported a.script z ≡ reported a.script h.run ++ lines → told m.sink l lines → (readers : List Reader) → AreReaders m.core.loaded.store readers z.sessions
+      → (l : K) (lines : List Reported) → reported a.script z ≡ reported a.script h.run ++ lines → told m.sink l lines → (readers : List ReaderData) → AreReaders m.core.loaded.store readers z.sessions
       → IsOnPlan told a (record { core = m.core; readers = readers; sink = l }) (suc place) rest
   quiet_turn allowed z is piped off l lines grows said readers are =
       record { run = z; at = quiet_at allowed z is piped l lines grows said; readers = are; goes_on = off ∙ h.goes_on; ends = done_ends allowed z is }
@@ -282,10 +280,10 @@ module _ {K : Type 0} (told : Telling K) (on : TellsOn told) (a : Start K) (m : 
         ∙ ap (λ p. reported a.script h.run ++ alone (opened s (p / 2) p) ∷ []) (sym (phase_is told on a m place (SessionOpen s) rest h))
 
     pub opens_turn : is_allowed_here m.core m.readers (SessionOpen s) ≡ true → (l : K) → told m.sink l (open_line s m.core.loaded.store ∷ [])
-        → IsOnPlan told a (record { core = m.core; readers = changed_at s (λ (r : Reader). record r { session = Some (opened_session m.core.loaded.store) }) m.readers; sink = l }) (suc place) rest
+        → IsOnPlan told a (record { core = m.core; readers = changed_at s (λ (r : ReaderData). record r { session = Some (opened_session m.core.loaded.store) }) m.readers; sink = l }) (suc place) rest
     opens_turn may l said =
         let store = m.core.loaded.store in
-        let readers = changed_at s (λ (r : Reader). record r { session = Some (opened_session store) }) m.readers in
+        let readers = changed_at s (λ (r : ReaderData). record r { session = Some (opened_session store) }) m.readers in
         let r = reader_there is_not_open refl m.readers s may in
         let phase = phase_is told on a m place (SessionOpen s) rest h in
         quiet_turn told on a m place (SessionOpen s) rest h (allowed_here told on a m place (SessionOpen s) rest h may) (after_open s h.run) refl refl refl l (open_line s store ∷ []) open_grows said readers
@@ -298,28 +296,28 @@ module _ {K : Type 0} (told : Telling K) (on : TellsOn told) (a : Start K) (m : 
   -- ---- a session closes
 
   pub closes_turn : (s : ℕ) → IsOnPlan told a m place (SessionClose s ∷ rest) → told m.sink m.sink [] → is_allowed_here m.core m.readers (SessionClose s) ≡ true
-      → IsOnPlan told a (record m { readers = changed_at s (λ _. closed) m.readers }) (suc place) rest
+      → IsOnPlan told a (record m { readers = changed_at s (λ (r : ReaderData). record r { session = None }) m.readers }) (suc place) rest
   closes_turn s h none may =
       let store = m.core.loaded.store in
       let r = reader_there is_open refl m.readers s may in
       quiet_turn told on a m place (SessionClose s) rest h (allowed_here told on a m place (SessionClose s) rest h may) (with_session s not_open h.run) refl refl refl m.sink []
-      (sym (append-nil (reported a.script h.run))) none (changed_at s (λ _. closed) m.readers) (readers_close store m.readers h.run.sessions s r.0 r.1 h.readers)
+      (sym (append-nil (reported a.script h.run))) none (changed_at s (λ (r : ReaderData). record r { session = None }) m.readers) (readers_close store m.readers h.run.sessions s r.0 r.1 h.readers)
 
-  pub closed_on : (s : ℕ) → IsOnPlan told a m place (SessionClose s ∷ rest) → told m.sink m.sink [] → is_allowed_here m.core m.readers (SessionClose s) ≡ true → (after : List Reader) → after ≡ changed_at s (λ _. closed) m.readers
+  pub closed_on : (s : ℕ) → IsOnPlan told a m place (SessionClose s ∷ rest) → told m.sink m.sink [] → is_allowed_here m.core m.readers (SessionClose s) ≡ true → (after : List ReaderData) → after ≡ changed_at s (λ (r : ReaderData). record r { session = None }) m.readers
       → IsOnPlan told a (record m { readers = after }) (suc place) rest
   closed_on s h none may after put = subst (λ rs. IsOnPlan told a (record m { readers = rs }) (suc place) rest) (sym put) (closes_turn s h none may)
 
   -- ---- a session begins a scan
 
   pub scans_turn : (s x : ℕ) → IsOnPlan told a m place (SessionScan s x ∷ rest) → told m.sink m.sink [] → is_allowed_here m.core m.readers (SessionScan s x) ≡ true → x < length m.core.loaded.store.views
-      → (after : List Reader) → ChangedAt s (HasBegunScan m.core.loaded.store x) m.readers after → IsOnPlan told a (record m { readers = after }) (suc place) rest
+      → (after : List ReaderData) → ChangedAt s (HasBegunScan m.core.loaded.store x) m.readers after → IsOnPlan told a (record m { readers = after }) (suc place) rest
   scans_turn s x h none may lt after did =
       quiet_turn told on a m place (SessionScan s x) rest h (allowed_here told on a m place (SessionScan s x) rest h may) (after_scan s x h.run) refl refl refl m.sink []
       (sym (append-nil (reported a.script h.run))) none after (readers_scan m.core.loaded.store m.readers after h.run.sessions s x lt did h.readers)
 
   -- ---- a session fetches
 
-  module _ (s n : ℕ) (h : IsOnPlan told a m place (SessionFetch s n ∷ rest)) (r t : Reader) (line : Reported) (there : slice_get m.readers s ≡ Some r)
+  module _ (s n : ℕ) (h : IsOnPlan told a m place (SessionFetch s n ∷ rest)) (r t : ReaderData) (line : Reported) (there : slice_get m.readers s ≡ Some r)
       (did : HasFetchedFrom m.core.loaded.store s n r t line) where
     abbrev facts : Facts
     facts = facts_of a.script
@@ -336,8 +334,8 @@ module _ {K : Type 0} (told : Telling K) (on : TellsOn told) (a : Start K) (m : 
     view_is_there : (scan_in did.old).view < length m.core.loaded.store.views
     view_is_there = (held.2.scan did.scans).view
       where
-        held : (b : Buffer) × (IsSome did.old.scan → r.buffer ≡ Some b) × IsReader m.core.loaded.store did.old b
-        held = all_there (IsReaderIn m.core.loaded.store) s m.readers r there h.readers.read did.old did.is_open
+        held : (b : Buffer) × (IsSome did.old.scan → slice_get r.buffers (scan_in did.old).view ≡ Some (Some b)) × IsReader m.core.loaded.store did.old b
+        held = (all_there (IsReaderIn m.core.loaded.store) s m.readers r there h.readers.read).reads did.old did.is_open
 
     slots_are : slots_of facts (scan_in did.old) ≡ slots_in m.core.loaded.store (scan_in did.old)
     slots_are = slots_there (slotted_views a.script) m.core.loaded.store.views (scan_in did.old).view carried.store.views view_is_there
@@ -345,8 +343,8 @@ module _ {K : Type 0} (told : Telling K) (on : TellsOn told) (a : Start K) (m : 
     versions_are : facts.versions ≡ did.old.versions
     versions_are = sym carried.store.versions ∙ sym held.2.versions
       where
-        held : (b : Buffer) × (IsSome did.old.scan → r.buffer ≡ Some b) × IsReader m.core.loaded.store did.old b
-        held = all_there (IsReaderIn m.core.loaded.store) s m.readers r there h.readers.read did.old did.is_open
+        held : (b : Buffer) × (IsSome did.old.scan → slice_get r.buffers (scan_in did.old).view ≡ Some (Some b)) × IsReader m.core.loaded.store did.old b
+        held = (all_there (IsReaderIn m.core.loaded.store) s m.readers r there h.readers.read).reads did.old did.is_open
 
     visited_is : scan_after (slots_in m.core.loaded.store (scan_in did.old)) n (scan_in did.old) ≡ visited
     visited_is = ap (λ slots. scan_after slots n (scan_in did.old)) (sym slots_are)
@@ -363,7 +361,7 @@ module _ {K : Type 0} (told : Telling K) (on : TellsOn told) (a : Start K) (m : 
     rows_are = by did.fetched refl
       where
         committed : did.old.version ≤ length h.run.pipeline.writer.earlier_cuts
-        committed = omega (arith, (all_there (IsReaderIn m.core.loaded.store) s m.readers r there h.readers.read did.old did.is_open).2.committed, carried.store.phase, carried.store.cuts)
+        committed = omega (arith, ((all_there (IsReaderIn m.core.loaded.store) s m.readers r there h.readers.read).reads did.old did.is_open).2.committed, carried.store.phase, carried.store.cuts)
 
         by : (fetched : Fetched) → did.fetched ≡ fetched → rows_read fetched did.buffer ≡ rows_of a.script (version_cuts h.run.pipeline) (record_of (phase_of h.run) s visited fetched)
         by More is = refl
@@ -393,12 +391,12 @@ module _ {K : Type 0} (told : Telling K) (on : TellsOn told) (a : Start K) (m : 
 -- ---- the same, of the store that the core hands out
 
 module _ {K : Type 0} (told : Telling K) (on : TellsOn told) (a : Start K) (m : Moment K) (place : ℕ) (rest : List Event) (store : StoreState) (is : store ≡ m.core.loaded.store) where
-  pub opened_on : (s : ℕ) → IsOnPlan told a m place (SessionOpen s ∷ rest) → is_allowed_here m.core m.readers (SessionOpen s) ≡ true → (after : List Reader) (l : K)
-      → after ≡ changed_at s (λ (r : Reader). record r { session = Some (opened_session store) }) m.readers → told m.sink l (open_line s store ∷ [])
+  pub opened_on : (s : ℕ) → IsOnPlan told a m place (SessionOpen s ∷ rest) → is_allowed_here m.core m.readers (SessionOpen s) ≡ true → (after : List ReaderData) (l : K)
+      → after ≡ changed_at s (λ (r : ReaderData). record r { session = Some (opened_session store) }) m.readers → told m.sink l (open_line s store ∷ [])
       → IsOnPlan told a (record { core = m.core; readers = after; sink = l }) (suc place) rest
   opened_on s h may after l put said =
       subst (λ rs. IsOnPlan told a (record { core = m.core; readers = rs; sink = l }) (suc place) rest)
-      (sym (put ∙ ap (λ st. changed_at s (λ (r : Reader). record r { session = Some (opened_session st) }) m.readers) is))
+      (sym (put ∙ ap (λ st. changed_at s (λ (r : ReaderData). record r { session = Some (opened_session st) }) m.readers) is))
       (opens_turn told on a m place rest s h may l (subst (λ st. told m.sink l (open_line s st ∷ [])) is said))
 
   pub open_failed : (s : ℕ) → IsOnPlan told a m place (SessionOpen s ∷ rest) → is_allowed_here m.core m.readers (SessionOpen s) ≡ true → (failed : Telling K) → FailsLater told failed → (l : K)
@@ -411,24 +409,24 @@ module _ {K : Type 0} (told : Telling K) (on : TellsOn told) (a : Start K) (m : 
       let views = store_long a.script m.core.loaded h.run.pipeline (here told on a m place (SessionScan s x) rest h) in
       omega (arith, ltb-true x (length m.core.setup.views) there, ap (λ (d : SetupData). length d.views) h.at.setup, views, ap (λ (st : StoreState). length st.views) is)
 
-  pub scanned_on : (s x : ℕ) → IsOnPlan told a m place (SessionScan s x ∷ rest) → told m.sink m.sink [] → is_allowed_here m.core m.readers (SessionScan s x) ≡ true → (after : List Reader)
+  pub scanned_on : (s x : ℕ) → IsOnPlan told a m place (SessionScan s x ∷ rest) → told m.sink m.sink [] → is_allowed_here m.core m.readers (SessionScan s x) ≡ true → (after : List ReaderData)
       → ChangedAt s (HasBegunScan store x) m.readers after → IsOnPlan told a (record m { readers = after }) (suc place) rest
   scanned_on s x h none may after did =
       scans_turn told on a m place rest s x h none may (let lt = scan_there s x h may in omega (arith, lt, ap (λ (st : StoreState). length st.views) is)) after (subst (λ st. ChangedAt s (HasBegunScan st x) m.readers after) is did)
 
-  pub fetched_on : (s n : ℕ) → IsOnPlan told a m place (SessionFetch s n ∷ rest) → is_allowed_here m.core m.readers (SessionFetch s n) ≡ true → (after : List Reader) (l : K)
+  pub fetched_on : (s n : ℕ) → IsOnPlan told a m place (SessionFetch s n ∷ rest) → is_allowed_here m.core m.readers (SessionFetch s n) ≡ true → (after : List ReaderData) (l : K)
       → (line : Reported) × ChangedAt s (λ r t. HasFetchedFrom store s n r t line) m.readers after × told m.sink l (line ∷ []) → IsOnPlan told a (record { core = m.core; readers = after; sink = l }) (suc place) rest
   fetched_on s n h may after l (line, (r, t, there, did, put), said) =
       subst (λ rs. IsOnPlan told a (record { core = m.core; readers = rs; sink = l }) (suc place) rest) (sym put)
       (fetches_turn told on a m place rest s n h r t line there (subst (λ st. HasFetchedFrom st s n r t line) is did) may l said)
 
-  pub fetch_failed : (s n : ℕ) → IsOnPlan told a m place (SessionFetch s n ∷ rest) → is_allowed_here m.core m.readers (SessionFetch s n) ≡ true → (failed : Telling K) → FailsLater told failed → (after : List Reader) (l : K)
+  pub fetch_failed : (s n : ℕ) → IsOnPlan told a m place (SessionFetch s n ∷ rest) → is_allowed_here m.core m.readers (SessionFetch s n) ≡ true → (failed : Telling K) → FailsLater told failed → (after : List ReaderData) (l : K)
       → (line : Reported) × ChangedAt s (λ r t. HasFetchedFrom store s n r t line) m.readers after × failed m.sink l (line ∷ []) → TellsPart failed a l
   fetch_failed s n h may failed later after l (line, (r, t, there, did, put), bad) =
       fetches_tried told on a m place rest s n h r t line there (subst (λ st. HasFetchedFrom st s n r t line) is did) failed later may l bad
 
 -- an event of the core that is allowed is enabled
-pub enabled_piped : (c : CoreData) (rs : List Reader) (e : Event) → is_pipeline_event e ≡ true → is_allowed_here c rs e ≡ true → is_enabled_loaded c.loaded e ≡ true
+pub enabled_piped : (c : CoreData) (rs : List ReaderData) (e : Event) → is_pipeline_event e ≡ true → is_allowed_here c rs e ≡ true → is_enabled_loaded c.loaded e ≡ true
 enabled_piped c rs (Commit y) piped may = may
 enabled_piped c rs (Answer y x) piped may = may
 enabled_piped c rs (Integrate y) piped may = may
@@ -446,14 +444,17 @@ enabled_piped c rs (SessionClose s) piped may = absurd (cc)
 -- ---- from the first event of the schedule to the last
 
 module _ {K : Type 0} (told : Telling K) (on : TellsOn told) (a : Start K) (c : CoreData) (k : K) (schedule : ℕ × List Event) (h : IsBegun told a c k schedule) where
-  pub plan_begins : (readers : List Reader) → readers ≡ replicate schedule.0 closed → IsOnPlan told a (record { core = c; readers = readers; sink = k }) 1 a.events
-  plan_begins readers are = record {
-    run = start_world (facts_of a.script);
-    at = h.at;
-    readers = subst (λ rs. AreReaders c.loaded.store rs (replicate a.script.sessions not_open)) (sym (are ∙ ap (λ n. replicate n closed) h.sessions)) (none_open c.loaded.store a.script.sessions);
-    goes_on = refl;
-    ends = refl;
-  }
+  pub plan_begins : (readers : List ReaderData) (views : ℕ) → views ≡ length c.setup.views → readers ≡ replicate schedule.0 (closed_reader views) → IsOnPlan told a (record { core = c; readers = readers; sink = k }) 1 a.events
+  plan_begins readers views many are =
+      let long = store_long a.script c.loaded (start_world (facts_of a.script)).pipeline (carries told a c k (start_world (facts_of a.script)) h.at) in
+      let count : views ≡ length c.loaded.store.views = many ∙ (ap (λ (s : SetupData). length s.views) h.at.setup ∙ sym long) in
+      record {
+        run = start_world (facts_of a.script);
+        at = h.at;
+        readers = subst (λ rs. AreReaders c.loaded.store rs (replicate a.script.sessions not_open)) (sym (are ∙ ap₂ (λ n v. replicate n (closed_reader v)) h.sessions count)) (none_open c.loaded.store a.script.sessions);
+        goes_on = refl;
+        ends = refl;
+      }
 
   pub begun_told : told k k [] → TellsPart told a k
   begun_told none =
@@ -487,7 +488,7 @@ pub slice_back : {A : Type 0} (n : ℕ) (new old : List A) → length new ≡ n 
 slice_back n new old e = take-append-le n new (drop (length new) old) (omega (arith, e)) ∙ take_all n new (omega (arith, e))
 
 -- the plan before the turn of the event at this place of the schedule
-pub plan_at : {K : Type 0} (told : Telling K) (a : Start K) (c : CoreData) (k : K) (readers items : List Reader) (i : ℕ) (es : List Event) (d : Event) → readers ≡ items → es ≡ a.events → i < length es
+pub plan_at : {K : Type 0} (told : Telling K) (a : Start K) (c : CoreData) (k : K) (readers items : List ReaderData) (i : ℕ) (es : List Event) (d : Event) → readers ≡ items → es ≡ a.events → i < length es
     → IsOnPlan told a (record { core = c; readers = items; sink = k }) (suc i) (drop i a.events) → IsOnPlan told a (record { core = c; readers = readers; sink = k }) (i + 1) (slice_index_or es i d ∷ drop (i + 1) a.events)
 plan_at told a c k readers items i es d are same lt h =
     let place : suc i ≡ i + 1 = omega arith in
@@ -498,7 +499,7 @@ plan_at told a c k readers items i es d are same lt h =
     (subst (IsOnPlan told a (record { core = c; readers = items; sink = k }) (suc i)) rest h))
 
 -- the plan once all events had their turns
-pub plan_over : {K : Type 0} (told : Telling K) (a : Start K) (c : CoreData) (k : K) (readers : List Reader) (i : ℕ) → length a.events ≤ i
+pub plan_over : {K : Type 0} (told : Telling K) (a : Start K) (c : CoreData) (k : K) (readers : List ReaderData) (i : ℕ) → length a.events ≤ i
     → IsOnPlan told a (record { core = c; readers = readers; sink = k }) (suc i) (drop i a.events) → IsOnWay told a c k
 plan_over told a c k readers i le h =
     plan_ends told a (record { core = c; readers = readers; sink = k }) (suc i) (subst (IsOnPlan told a (record { core = c; readers = readers; sink = k }) (suc i)) (none_left a.events i le) h)

@@ -6,13 +6,13 @@ use Rattle.std.specs.Prelude.{map, find, is_some}
 use Rattle.std.proofs.lemmas.List.{length-map, length-replicate}
 use Rattle.std.proofs.lemmas.Bool.{and_from}
 use Rattle.whips_flow.specs.Facts.{Facts, view_places}
-use Rattle.whips_flow.specs.State.{Pipeline, start, version_cuts}
-use Rattle.whips_flow.specs.Progress.{is_enabled, is_done, step, after, next, shortage_at, first_enabled, pipeline_events}
+use Rattle.whips_flow.specs.State.{start, version_cuts}
+use Rattle.whips_flow.specs.Progress.{is_enabled, is_done, step, next, shortage_at, first_enabled, pipeline_events}
 use Rattle.whips_flow.specs.Work.{work}
 use Rattle.whips_flow.specs.declared.event.Event.{Event}
 use Rattle.whips_drain_laws.specs.Drain.{HasAllManagers}
 use Rattle.whips_runs.specs.Records.{final, final_rows}
-use Rattle.whips_runs.specs.World.{World, after_event, finished_world, with_final_records, start_world, after_listed_plan}
+use Rattle.whips_runs.specs.World.{World, after_event, finished_world, with_final_records, start_world}
 use Rattle.whips_run_laws.proofs.Reaches.{enabled_allowed}
 use Rattle.whips_states.specs.States.{Updates}
 use Rattle.whips_setup.specs.Setups.{SetupData}

@@ -1,5 +1,5 @@
 -- The readers of a run: its sessions as code keeps them, beside the store that they read.
-use Rattle.std.specs.Prelude.{◌≡◌, ℕ, ◌/◌, ◌&&◌, nat_lt, Bool, List, [], ◌∷◌, length, map, slice_get, is_some, IsSome, Option, Some, None}
+use Rattle.std.specs.Prelude.{◌≡◌, ℕ, ◌/◌, ◌&&◌, nat_lt, Bool, List, [], ◌≤◌, length, map, replicate, slice_get, slice_set, is_some, IsSome, Option, Some, None}
 use Rattle.std.specs.List.{AllByRecursion}
 use Rattle.whips_lists.specs.Lists.{changed_at}
 use Rattle.whips_flow.specs.Facts.{Facts}
@@ -18,27 +18,42 @@ use Rattle.whips_session.specs.Laws.{record_of}
 use Rattle.whips_session_laws.specs.Readers.{slots_in, IsReader, HasFetched}
 use Rattle.whips_contents.specs.Events.{is_enabled_loaded}
 use Rattle.whips_core.specs.Cores.{CoreData}
-use Rattle.whips_world.specs.declared.readers.Reader.{Reader}
+
+-- A reader as data: its session, where it is open, and for each view the buffer of its last scan of the view.
+pub record ReaderData : Type 0 where
+  pub session : Option OpenSession
+  pub buffers : List (Option Buffer)
+
+-- A reader of so many views that has no open session and has scanned nothing.
+abbrev pub closed_reader : ℕ → ReaderData
+closed_reader views = record { session = None; buffers = replicate views None }
 
 abbrev pub session_in : Option OpenSession → Session
 session_in None = not_open
 session_in (Some s) = state_of s
 
 -- The session of the reader, as a run has it.
-abbrev pub session_of : Reader → Session
+abbrev pub session_of : ReaderData → Session
 session_of r = session_in r.session
 
--- An open session is a reader of the store, whose buffer is that of the reader where a scan goes on.
-abbrev pub IsReaderIn : StoreState → Reader → Type 0
-IsReaderIn store r = (s : OpenSession) → r.session ≡ Some s → (b : Buffer) × (IsSome s.scan → r.buffer ≡ Some b) × IsReader store s b
+-- The buffer is for rows of view x, and has room for a row of each of its slots.
+pub record FitsView (store : StoreState) (x : ℕ) (b : Buffer) : Type 0 where
+  pub columns : b.columns ≡ (view_in store x).columns
+  pub room : length (view_in store x).records ≤ b.room
+
+-- A reader of the store: its buffers fit their views, and an open session reads with the buffer of the view that it scans.
+pub record IsReaderIn (store : StoreState) (r : ReaderData) : Type 0 where
+  pub long : length r.buffers ≡ length store.views
+  pub fits : (x : ℕ) (b : Buffer) → slice_get r.buffers x ≡ Some (Some b) → FitsView store x b
+  pub reads : (s : OpenSession) → r.session ≡ Some s → (b : Buffer) × (IsSome s.scan → slice_get r.buffers (scan_in s).view ≡ Some (Some b)) × IsReader store s b
 
 -- The readers of a store have these sessions.
-pub record AreReaders (store : StoreState) (readers : List Reader) (sessions : List Session) : Type 0 where
+pub record AreReaders (store : StoreState) (readers : List ReaderData) (sessions : List Session) : Type 0 where
   pub sessions_are : map session_of readers ≡ sessions
   pub read : AllByRecursion (IsReaderIn store) readers
 
 -- Whether the event can be done: as a run's machine has it, of the core and its readers.
-abbrev pub is_allowed_here : CoreData → List Reader → Event → Bool
+abbrev pub is_allowed_here : CoreData → List ReaderData → Event → Bool
 is_allowed_here c readers (SessionOpen s) = is_not_open (slice_get (map session_of readers) s)
 is_allowed_here c readers (SessionScan s x) = is_open (slice_get (map session_of readers) s) && nat_lt x (length c.setup.views)
 is_allowed_here c readers (SessionFetch s n) = is_some (scan_of (slice_get (map session_of readers) s)) && nat_lt 0 n
@@ -65,25 +80,25 @@ rows_read (Expired v phase) b = []
 abbrev pub fetch_line : (phase session : ℕ) → Scan → Fetched → Buffer → Reported
 fetch_line phase session scan fetched b = record { entry = record_of phase session scan fetched; rows = rows_read fetched b }
 
--- A scan of view x begins at its first slot, with an empty buffer that has room for a row of each slot.
-pub record HasBegunScan (store : StoreState) (x : ℕ) (before after : Reader) : Type 0 where
+-- A scan of view x begins at its first slot, with an empty buffer that fits the view.
+pub record HasBegunScan (store : StoreState) (x : ℕ) (before after : ReaderData) : Type 0 where
   pub session : OpenSession
   pub is_open : before.session ≡ Some session
   pub buffer : Buffer
-  pub put : after ≡ record { session = Some (record session { scan = Some (x, 0) }); buffer = Some buffer }
-  pub columns : buffer.columns ≡ (view_in store x).columns
-  pub room : length (view_in store x).records ≡ buffer.room
+  pub put : after ≡ record { session = Some (record session { scan = Some (x, 0) }); buffers = slice_set before.buffers x (Some buffer) }
+  pub fits : FitsView store x buffer
   pub empty : buffer.rows ≡ []
 
 -- A fetch of n slots from the store, of which this is told.
-pub record HasFetchedFrom (store : StoreState) (session n : ℕ) (before after : Reader) (line : Reported) : Type 0 where
+pub record HasFetchedFrom (store : StoreState) (session n : ℕ) (before after : ReaderData) (line : Reported) : Type 0 where
   pub old : OpenSession
   pub is_open : before.session ≡ Some old
   pub scans : IsSome old.scan
   pub new : OpenSession
   pub buffer : Buffer
   pub fetched : Fetched
-  pub put : after ≡ record { session = Some new; buffer = Some buffer }
+  pub put : after ≡ record { session = Some new; buffers = slice_set before.buffers (scan_in old).view (Some buffer) }
+  pub fits : FitsView store (scan_in old).view buffer
   pub goes_on : new ≡ session_fetched (slots_in store (scan_in old)) n store.phase old
   pub answer : fetched ≡ answer_of (slots_in store (scan_in old)) n store.phase old
   pub did : HasFetched store old new fetched store.phase buffer
@@ -91,5 +106,5 @@ pub record HasFetchedFrom (store : StoreState) (session n : ℕ) (before after :
   pub told : line ≡ fetch_line store.phase session (scan_after (slots_in store (scan_in old)) n (scan_in old)) fetched buffer
 
 -- The call changed one reader of the list, as it says.
-abbrev pub ChangedAt : ℕ → (Reader → Reader → Type 0) → (before after : List Reader) → Type 0
-ChangedAt s did before after = (r : Reader) × (t : Reader) × (slice_get before s ≡ Some r) × did r t × (after ≡ changed_at s (λ _. t) before)
+abbrev pub ChangedAt : ℕ → (ReaderData → ReaderData → Type 0) → (before after : List ReaderData) → Type 0
+ChangedAt s did before after = (r : ReaderData) × (t : ReaderData) × (slice_get before s ≡ Some r) × did r t × (after ≡ changed_at s (λ _. t) before)

@@ -15,8 +15,7 @@ use Rattle.whips_setup.specs.Workloads.{IsWorkload}
 use Rattle.whips_headline_laws.proofs.Told.{Told}
 use Rattle.whips_core_laws.specs.Core.{loaded_after}
 use Rattle.whips_core.specs.Cores.{CoreData}
-use Rattle.whips_world.specs.Readers.{AreReaders}
-use Rattle.whips_world.specs.declared.readers.Reader.{Reader}
+use Rattle.whips_world.specs.Readers.{ReaderData, AreReaders}
 
 -- The first elements of the list, and no more.
 abbrev pub IsFirstPart : {A : Type 0} → List A → List A → Type 0
@@ -65,7 +64,7 @@ pub record IsDrained {K : Type 0} (told : Telling K) (a : Start K) (c : CoreData
 -- Where the code of a run is: its core, its readers, and the sink.
 pub record Moment (K : Type 0) : Type 0 where
   pub core : CoreData
-  pub readers : List Reader
+  pub readers : List ReaderData
   pub sink : K
 
 -- Some run that isn't full is where the core is, its sessions are those of the readers, and it ends as the whole one does once it has done these events, the first of them at this place of the schedule, and has drained.

@@ -126,7 +126,7 @@ pub(crate) fn play<T: Site, S: Store, K: RecordSink>(
     ensures memory { IfErr result (λ r. r ≡ RecordErr.NoMemory → TellsPart K.told at sink.new) }
     ensures failed { IfErr result (λ r. r ≡ RecordErr.Failed → TellsPart K.failed at sink.new) }
 {
-    let mut readers = closed_readers(alloc, schedule.sessions)?;
+    let mut readers = closed_readers(alloc, schedule.sessions, core.setup().views())?;
     for i in 0..schedule.events.len() {
         let entry = (i as u64 + 1, schedule.events[i]);
         if turn(alloc, core, &mut readers, entry, sink)? {

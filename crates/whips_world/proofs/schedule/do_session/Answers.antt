@@ -1,4 +1,4 @@
-use Rattle.std.proofs.Common.{◌≡◌, true, [], ◌∷◌, refl, subst}
+use Rattle.std.proofs.Common.{◌≡◌, true, ◌∷◌, refl, subst}
 use Rattle.std.proofs.lemmas.Option.{slice_get_within}
 use Rattle.whips_runs.specs.Sessions.{is_open}
 use Rattle.whips_world.specs.Readers.{is_allowed_here}

@@ -1,5 +1,6 @@
-use Rattle.std.proofs.Common.{[], ◌∷◌, ◌+◌, ◌≤◌, suc, drop, length, refl, sym, ap, subst, ◌∙◌, arith}
+use Rattle.std.proofs.Common.{◌+◌, ◌≤◌, suc, drop, length, refl, sym, ap, subst, ◌∙◌, arith}
 use Rattle.whips_flow.specs.declared.event.Event.TheVariants.{Commit}
+use Rattle.whips_setup.specs.Setups.{SetupData}
 use Rattle.whips_report.specs.declared.sink.RecordErr.TheVariants.{NoMemory}
 use Rattle.whips_world.specs.Runs.{Moment, IsOnPlan, IsTurned}
 use Rattle.whips_world.proofs.Errors.{err_with}
@@ -12,7 +13,7 @@ returns-in_err-readers-clause-memory g c =
     (λ is. begun_told g.K.RecordSink.told g.met.K.RecordSink.told_more g.at c.args.core.now c.args.sink.now _ c.requires.1.1.1.1 (g.met.K.RecordSink.told_none c.args.sink.now))
 
 pub loop-i-init : goal.loop-i-init
-loop-i-init g c = plan_begins g.K.RecordSink.told g.met.K.RecordSink.told_more g.at c.args.core.now c.args.sink.now _ c.requires.1.1.1.1 c.in_ok-readers.readers.items c.in_ok-readers.ensures
+loop-i-init g c = plan_begins g.K.RecordSink.told g.met.K.RecordSink.told_more g.at c.args.core.now c.args.sink.now _ c.requires.1.1.1.1 c.in_ok-readers.readers.items c.views.result (c.views.ensures ∙ ap (λ (s : SetupData). length s.views) c.setup.ensures) c.in_ok-readers.ensures
 
 pub turn-requires : goal.turn-requires
 turn-requires g c = λ κs lives. (
