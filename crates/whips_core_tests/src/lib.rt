@@ -4,6 +4,4 @@
 #[cfg(test)]
 mod cases;
 #[cfg(test)]
-mod made;
-#[cfg(test)]
 mod runs;

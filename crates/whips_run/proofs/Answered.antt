@@ -1,5 +1,5 @@
 -- The answer, where the script or the refusal is known, and how a call ends with it.
-use Rattle.std.proofs.Common.{◌≡◌, ◌≢◌, ℕ, ◌<◌, List, [], length, take, Option, Ok, Err, sym, ap, subst, ◌∙◌, ◌⊎◌, ⊎_elim, arith}
+use Rattle.std.proofs.Common.{◌≡◌, ◌≢◌, ℕ, ◌<◌, List, length, take, Option, Ok, Err, sym, ap, subst, ◌∙◌, ◌⊎◌, ⊎_elim, arith}
 use Rattle.std.specs.Io.KnownBytes.{Appends}
 use Rattle.whips_facts.specs.Values.{IsValidScript}
 use Rattle.whips_reports.specs.Reported.{listed}

@@ -1,5 +1,5 @@
 -- What a sink of lines was told, as what its output has taken of the report.
-use Rattle.std.proofs.Common.{◌≡◌, ℕ, ◌<◌, ◌≤◌, Bool, List, [], length, length-append, take, Result, Ok, Err, refl, sym, ap, subst, ◌∙◌, arith}
+use Rattle.std.proofs.Common.{◌≡◌, ℕ, ◌<◌, ◌≤◌, Bool, List, length, length-append, take, Result, Ok, Err, refl, sym, ap, subst, ◌∙◌, arith}
 use Rattle.std.specs.Prelude.{IfOk, IfErr, OnOk}
 use Rattle.std.specs.Result.{IsErrAnd}
 use Rattle.std.proofs.KnownBytes.{Appends-nil}
@@ -11,7 +11,7 @@ use Rattle.whips_run.specs.Answer.{run_of_script, report_of}
 use Rattle.std.specs.Io.KnownBytes.{Appends}
 use Rattle.std.proofs.lemmas.List.{take-append-le, take_all}
 use Rattle.whips_io.specs.Counts.{HasRisen}
-use Rattle.whips_facts.specs.Scripts.{Script, Bytes, Labels}
+use Rattle.whips_facts.specs.Scripts.{Script, Labels}
 use Rattle.whips_reports.specs.Reported.{Reported, reported, listed, run_of}
 use Rattle.whips_reports.specs.Lines.{report}
 use Rattle.whips_report.specs.declared.sink.RecordErr.{RecordErr}

@@ -1,4 +1,4 @@
-//! Whole runs on scripts with sessions and schedules, worked by hand.
+//! Whole runs on scripts with sessions, schedules, transactions of several updates and more versions, worked by hand.
 use crate::run::{NOTHING, ends_as};
 
 /// A script, and how its run ends.
@@ -369,6 +369,79 @@ row [1,5]
         report: br#"version 0 cut A=0 rows W=2
 open s version 0 phase 0
 full W need 3 slots 2
+"#,
+    },
+    Case {
+        what: "a transaction that changes a row's join",
+        text: br#"{"sources":[
+            {"name":"A","relations":[{"name":"R","columns":[["a","number"],["b","number"]],"key":["a"],"rows":[[1,6]]}],"updates":[["all",[["delete","R",[1]],["insert","R",[1,5]]]]]},
+            {"name":"B","relations":[{"name":"S","columns":[["c","number"],["b","number"]],"key":["c"],"rows":[[7,5]]}]}],
+            "views":[{"name":"V","relations":["R","S"],"equal":[["R.b","S.b"]],"out":["R.a","S.c","R.b"],"slots":4}],
+            "sessions":["s"]}"#,
+        status: 0,
+        report: br#"version 0 cut A=0 B=0 rows V=0
+version 1 cut A=1 B=0 rows V=1
+final A=1 B=0
+view V rows 1
+row [1,7,5]
+"#,
+    },
+    Case {
+        what: "a transaction of two updates that comes while a query is open",
+        text: br#"{"sources":[
+            {"name":"A","relations":[{"name":"R","columns":[["a","number"],["b","number"]],"key":["a"]}],"updates":[["insert","R",[1,5]]]},
+            {"name":"B","relations":[{"name":"S","columns":[["c","number"],["b","number"]],"key":["c"],"rows":[[7,5]]}],"updates":[["all",[["delete","S",[7]],["insert","S",[8,5]]]]]}],
+            "views":[{"name":"V","relations":["R","S"],"equal":[["R.b","S.b"]],"out":["R.a","S.c","R.b"],"slots":4}],
+            "sessions":["s"],
+            "schedule":{"events":["commit A","integrate A","manage V","commit B","answer B V","integrate B",
+                "manage V","integrate B","manage V"]}}"#,
+        status: 0,
+        report: br#"version 0 cut A=0 B=0 rows V=0
+version 1 cut A=1 B=1 rows V=1
+final A=1 B=1
+view V rows 1
+row [1,8,5]
+"#,
+    },
+    Case {
+        what: "a slot that three versions keep from being used again",
+        text: br#"{"versions":3,"sources":[
+            {"name":"A","relations":[{"name":"R","columns":[["a","number"],["b","number"]],"key":["a"],"rows":[[1,5],[2,5]]}],"updates":[["delete","R",[1]],["insert","R",[3,5]]]},
+            {"name":"B","relations":[{"name":"S","columns":[["c","number"],["b","number"]],"key":["c"],"rows":[[7,5]]}]}],
+            "views":[{"name":"V","relations":["R","S"],"equal":[["R.b","S.b"]],"out":["R.a","S.c","R.b"],"slots":2}],
+            "sessions":["s"],
+            "schedule":{"events":["open s","commit A","integrate A","rel","manage V","act V","begin","change",
+                "publish","commit A","integrate A","rel","manage V","answer B V","integrate B","manage V","act V",
+                "begin","scan s V","fetch s 2"]}}"#,
+        status: 7,
+        report: br#"version 0 cut A=0 B=0 rows V=2
+open s version 0 phase 0
+version 1 cut A=1 B=0 rows V=1
+full V need 3 slots 2
+"#,
+    },
+    Case {
+        what: "a session that reads the second version before the one in work",
+        text: br#"{"versions":3,"sources":[
+            {"name":"A","relations":[{"name":"R","columns":[["a","number"],["b","number"]],"key":["a"],"rows":[[1,5],[2,5]]}],"updates":[["delete","R",[1]],["insert","R",[3,5]]]},
+            {"name":"B","relations":[{"name":"S","columns":[["c","number"],["b","number"]],"key":["c"],"rows":[[7,5]]}]}],
+            "views":[{"name":"V","relations":["R","S"],"equal":[["R.b","S.b"]],"out":["R.a","S.c","R.b"],"slots":3}],
+            "sessions":["s"],
+            "schedule":{"events":["open s","commit A","integrate A","rel","manage V","act V","begin","change",
+                "publish","commit A","integrate A","rel","manage V","answer B V","integrate B","manage V","act V",
+                "begin","scan s V","fetch s 3"]}}"#,
+        status: 0,
+        report: br#"version 0 cut A=0 B=0 rows V=2
+open s version 0 phase 0
+version 1 cut A=1 B=0 rows V=1
+read s V version 0 phase 3 rows 2
+row [1,7,5]
+row [2,7,5]
+version 2 cut A=2 B=0 rows V=2
+final A=2 B=0
+view V rows 2
+row [2,7,5]
+row [3,7,5]
 "#,
     },
 ];

@@ -168,7 +168,23 @@ fn what_cannot_be_built_is_refused(rt: HostRuntime) {
         ("[[1,5]]", r#"[["delete","R",[1,5]]]"#, r#"["R.a"]"#),
         ("[[1,5]]", r#"[["insert","S",[2,6]]]"#, r#"["R.a"]"#),
         ("[[1,5]]", r#"[["change","R",[1,6]]]"#, r#"["R.a"]"#),
-        ("[[1,5]]", r#"[["all",[["delete","R",[1]]]]]"#, r#"["R.a"]"#),
+        ("[[1,5]]", r#"[["all",[]]]"#, r#"["R.a"]"#),
+        (
+            "[[1,5]]",
+            r#"[["all",[["all",[["delete","R",[1]]]]]]]"#,
+            r#"["R.a"]"#,
+        ),
+        (
+            "[]",
+            r#"[["all",[["insert","R",[1,5]],["insert","R",[1,6]]]]]"#,
+            r#"["R.a"]"#,
+        ),
+        ("[[1,5]]", r#"[["all",["delete","R",[1]]]]"#, r#"["R.a"]"#),
+        (
+            "[[1,5]]",
+            r#"[["both",[["delete","R",[1]]]]]"#,
+            r#"["R.a"]"#,
+        ),
         ("[[1,5]]", r#"["insert"]"#, r#"["R.a"]"#),
         ("[[1,5]]", "[]", "[]"),
         ("[[1,5]]", "[]", r#"["R.b"]"#),
@@ -248,8 +264,12 @@ fn is_unplanned(alloc: Global, members: &str) -> Result<bool, AllocError> {
 }
 
 #[test]
-fn sessions_and_schedules_with_a_fault_are_refused(rt: HostRuntime) {
+fn versions_sessions_and_schedules_with_a_fault_are_refused(rt: HostRuntime) {
     let cases = [
+        r#""versions":1"#,
+        r#""versions":5"#,
+        r#""versions":2.0"#,
+        r#""versions":"3""#,
         r#""sessions":["end"]"#,
         r#""sessions":["s","s"]"#,
         r#""sessions":["1s"]"#,
