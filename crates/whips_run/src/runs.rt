@@ -61,7 +61,8 @@ fn run_sources<K: RecordSink>(
         }) sink.new) }
 {
     let store = Plain::make(alloc, &setup)?;
-    run(setup, sources, store, schedule, sink)
+    let ran = run(setup, sources, store, schedule, sink)?;
+    Ok(ran.is_full)
 }
 
 /// Runs a setup and a workload of it by a schedule, in plain memory. It answers whether a view had too few slots.

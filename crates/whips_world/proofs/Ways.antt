@@ -177,6 +177,19 @@ module _ {K : Type 0} (told : Telling K) (on : TellsOn told) (a : Start K) where
       go true t = ap (λ b. (cond b w (record w { records = w.records ++ final f.transactions ∷ map final_rows (view_places f) })).is_full) t
       go false t = ap (λ b. (cond b w (record w { records = w.records ++ final f.transactions ∷ map final_rows (view_places f) })).is_full) t
 
+  -- the records at the end leave the pipeline
+  still_piped : (f : Facts) (w : World) → (with_final_records f w).pipeline ≡ w.pipeline
+  still_piped f w = by w.is_full
+    where
+      by : (b : Bool) → (cond b w (record w { records = w.records ++ final f.transactions ∷ map final_rows (view_places f) })).pipeline ≡ w.pipeline
+      by true = refl
+      by false = refl
+
+  -- the theorem of the core, at the end of the run
+  pub drained_carries : (c : CoreData) (k : K) (is_full : Bool) → IsDrained told a c k is_full → Carries a.script c.loaded (whole a).pipeline
+  drained_carries c k is_full h =
+      subst (Carries a.script c.loaded) (sym (still_piped (facts_of a.script) h.run) ∙ ap (λ (w : World). w.pipeline) h.ends) (carries told a c k h.run h.at)
+
   pub full_ends : (c : CoreData) (k : K) → IsDrained told a c k true → TellsWhole told a k true
   full_ends c k h = (
     subst (λ w. told a.sink k (reported a.script w)) (sym (ap (λ b. cond b h.run (record (h.run) { records = h.run.records ++ final (facts_of a.script).transactions ∷ map final_rows (view_places (facts_of a.script)) })) h.full) ∙ h.ends) h.at.reports,

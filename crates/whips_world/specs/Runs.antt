@@ -13,7 +13,9 @@ use Rattle.whips_setup.specs.Setups.{SetupData}
 use Rattle.whips_setup.specs.Refusals.{IsSetup}
 use Rattle.whips_setup.specs.Workloads.{IsWorkload}
 use Rattle.whips_headline_laws.proofs.Told.{Told}
-use Rattle.whips_core_laws.specs.Core.{loaded_after}
+use Rattle.whips_store.specs.Stores.{StoreState}
+use Rattle.whips_contents.specs.Contents.{LoadedSource, LoadedPipeline}
+use Rattle.whips_core_laws.specs.Core.{Carries, loaded_after}
 use Rattle.whips_core.specs.Cores.{CoreData}
 use Rattle.whips_world.specs.Readers.{ReaderData, AreReaders}
 
@@ -108,3 +110,10 @@ pub record IsStart {K : Type 0} (a : Start K) (c : CoreData) (k : K) (transactio
   pub runs : c.stopped ≡ false
   pub counts : transactions ≡ map length a.script.work
   pub sink : k ≡ a.sink
+
+-- The run of the script by these events ended with these sources and this store: with the rest of a pipeline they are what the theorem of the core says of the machine's state at the run's end.
+pub record EndsWith (script : Script) (events : List Event) (sources : List LoadedSource) (store : StoreState) : Type 0 where
+  pub loaded : LoadedPipeline
+  pub sources_are : loaded.sources ≡ sources
+  pub store_is : loaded.store ≡ store
+  pub carries : Carries script loaded (run_of script (listed events)).pipeline

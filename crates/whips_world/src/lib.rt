@@ -8,5 +8,5 @@ mod readers;
 mod runs;
 mod schedule;
 
-pub use runs::run;
+pub use runs::{Ran, run};
 pub use schedule::Schedule;

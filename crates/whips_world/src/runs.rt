@@ -1,12 +1,13 @@
 //! A run from its start to its end.
-ghost use Rattle.std.specs.Prelude.{◌≡◌, List, [], length, map, IfOk, IfErr};
+ghost use Rattle.std.specs.Prelude.{◌≡◌, List, [], length, map, IfOk, IfErr, OnOk};
 ghost use Rattle.whips_lists.specs.Lists.{map_with_place};
 ghost use Rattle.whips_states.specs.States.{Updates};
 ghost use Rattle.whips_setup.specs.Workloads.{IsWorkload};
 ghost use Rattle.whips_store.specs.First.{store_at_first};
 ghost use Rattle.whips_contents.specs.Contents.{new_loaded_source};
+ghost use Rattle.whips_core_laws.specs.Core.{Carries};
 ghost use Rattle.whips_core.specs.Cores.{AreFresh};
-ghost use Rattle.whips_world.specs.Runs.{Start, scheduled, IsStart, TellsPart, TellsWhole};
+ghost use Rattle.whips_world.specs.Runs.{Start, scheduled, whole, IsStart, EndsWith, TellsPart, TellsWhole};
 
 use crate::events::drain;
 use crate::lines::{tell_end, tell_version};
@@ -46,6 +47,7 @@ fn run_on<T: Site, S: Store, K: RecordSink>(
     requires sessions { schedule.now.sessions ≡ at.script.sessions }
     requires events { schedule.now.events.now ≡ at.events }
     ensures told { IfOk result (λ full. TellsWhole K.told at sink.new full) }
+    ensures ended { OnOk result (Carries at.script core.new.loaded (whole at).pipeline) }
     ensures memory { IfErr result (λ r. r ≡ RecordErr.NoMemory → TellsPart K.told at sink.new) }
     ensures failed { IfErr result (λ r. r ≡ RecordErr.Failed → TellsPart K.failed at sink.new) }
 {
@@ -60,27 +62,42 @@ fn run_on<T: Site, S: Store, K: RecordSink>(
     Ok(false)
 }
 
+/// What a run came to.
+#[derive(Drop)]
+pub struct Ran<T: Site, S> {
+    /// Whether a view had too few slots, which ended the run.
+    pub is_full: bool,
+    /// The sources with what is on its way at them.
+    pub sources: Vec<SourceQueues<T>>,
+    /// The store.
+    pub store: S,
+}
+
 /// Runs the script of this setup, the workload that the sources have, and the sessions of the schedule: first the events
 /// of the schedule in order, where one that can't be done is skipped, and then the first event that can be done again and
-/// again, until none is left or a view has too few slots. The sink is told the records of the run, one at a time. It
-/// answers whether a view had too few slots, which ended the run. Where it fails, the sink was told a first part of these
-/// records.
+/// again, until none is left or a view has too few slots. The sink is told the records of the run, one at a time. It hands
+/// back the sources and the store, whose logs, counts of commits and phase are those of the run's machine, and whose rows
+/// are the views' values at its last cut. Where it fails, the sink was told a first part of these records.
 pub fn run<T: Site + Drop, S: Store + Drop, K: RecordSink>(
     setup: Setup,
     sources: Vec<SourceQueues<T>>,
     store: S,
     schedule: &Schedule,
     sink: &mut K,
-) -> Result<bool, RecordErr>
+) -> Result<Ran<T, S>, RecordErr>
     requires fresh { AreFresh setup sources.items }
     requires store { S.state store ≡ store_at_first setup }
-    ensures told { IfOk result (λ full. (work : List (List Updates)) → IsWorkload setup work
+    ensures told { IfOk result (λ ran. (work : List (List Updates)) → IsWorkload setup work
         → sources.items ≡ map_with_place (new_loaded_source setup) 0 work
         → TellsWhole K.told (record {
           script = scheduled setup work schedule.now.sessions;
           events = schedule.now.events.now;
           sink = sink.old;
-        }) sink.new full) }
+        }) sink.new ran.is_full) }
+    ensures ended { IfOk result (λ ran. (work : List (List Updates)) → IsWorkload setup work
+        → sources.items ≡ map_with_place (new_loaded_source setup) 0 work
+        → EndsWith (scheduled setup work schedule.now.sessions) schedule.now.events.now
+        ran.sources.items (S.state ran.store)) }
     ensures memory { IfErr result (λ r. r ≡ RecordErr.NoMemory → (work : List (List Updates))
         → IsWorkload setup work
         → sources.items ≡ map_with_place (new_loaded_source setup) 0 work
@@ -101,5 +118,11 @@ pub fn run<T: Site + Drop, S: Store + Drop, K: RecordSink>(
     let alloc = *sources.allocator();
     let counts = transactions_left(alloc, &sources)?;
     let mut core = Core::new(alloc, setup, sources, store)?;
-    run_on(alloc, &mut core, schedule, &counts, sink)
+    let is_full = run_on(alloc, &mut core, schedule, &counts, sink)?;
+    let (sources, store) = core.close();
+    Ok(Ran {
+        is_full,
+        sources,
+        store,
+    })
 }

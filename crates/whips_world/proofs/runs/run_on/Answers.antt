@@ -1,7 +1,7 @@
-use Rattle.std.proofs.Common.{subst}
+use Rattle.std.proofs.Common.{true, subst}
 use Rattle.whips_world.specs.Runs.{IsPlayed, IsDrained}
 use Rattle.whips_world.proofs.Errors.{err_with}
-use Rattle.whips_world.proofs.Ways.{run_begins, begin_tried, full_ends, rest_ends, end_told, end_tried}
+use Rattle.whips_world.proofs.Ways.{run_begins, begin_tried, drained_carries, full_ends, rest_ends, end_told, end_tried}
 use Rattle.whips_world.proofs.runs.run_on.Goals as goal
 
 pub returns-in_err-tell_version-clause-failed : goal.returns-in_err-tell_version-clause-failed
@@ -60,3 +60,13 @@ pub returns-clause-told : goal.returns-clause-told
 returns-clause-told g c =
     let drained = subst (IsDrained g.K.RecordSink.told g.at c.drain.new.core c.drain.new.sink) c.if-branch-2.false c.in_ok-drain.ensures.ok in
     rest_ends g.K.RecordSink.told g.met.K.RecordSink.told_more g.at c.drain.new.core c.drain.new.sink drained c.args.transactions.now c.requires.1.1.1.1.0.counts c.tell_end.new.sink c.in_ok-tell_end.ensures.told
+
+pub returns-then-branch-clause-ended : goal.returns-then-branch-clause-ended
+returns-then-branch-clause-ended g c =
+    drained_carries g.K.RecordSink.told g.met.K.RecordSink.told_more g.at c.play.new.core c.play.new.sink true (subst (IsPlayed g.K.RecordSink.told g.at c.play.new.core c.play.new.sink) c.if-branch.true c.in_ok-play.ensures.ok)
+
+pub returns-clause-ended : goal.returns-clause-ended
+returns-clause-ended g c = drained_carries g.K.RecordSink.told g.met.K.RecordSink.told_more g.at c.drain.new.core c.drain.new.sink c.in_ok-drain.field-0 c.in_ok-drain.ensures.ok
+
+pub returns-then-branch-2-clause-ended : goal.returns-then-branch-2-clause-ended
+returns-then-branch-2-clause-ended g c = drained_carries g.K.RecordSink.told g.met.K.RecordSink.told_more g.at c.drain.new.core c.drain.new.sink c.in_ok-drain.field-0 c.in_ok-drain.ensures.ok
