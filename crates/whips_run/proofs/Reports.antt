@@ -19,7 +19,7 @@ use Rattle.whips_report.specs.declared.sink.RecordErr.TheVariants.{NoMemory, Fai
 use Rattle.whips_report.specs.Told.{Output, IsWritten, IsPartWritten, records_text}
 use Rattle.whips_report.specs.Laws.{records_join}
 use Rattle.whips_world.specs.Runs.{IsFirstPart, scheduled}
-use Rattle.whips_run.specs.Written.{HasWritten}
+use Rattle.whips_run.specs.Written.{fullness, HasWritten}
 
 module _ (s : Script) (l : Labels) (es : List Event) (old new : Output) where
   abbrev lines : List Reported
@@ -47,19 +47,19 @@ module _ (s : Script) (l : Labels) (es : List Event) (old new : Output) where
       (t.0, omega (arith, t.1, long part p), subst (Appends old.written new.written) (sym (front t.0 part p (omega (arith, t.1)))) t.2, h.risen)
 
 -- by how the call ended
-pub by_end : {Same Q R : Type 0} {P : Bool → Type 0} (text : List ℕ) (full : Bool) (old new : Output) (r : Result Bool RecordErr) → IfOk r P → IfErr r (λ e. e ≡ NoMemory → Q) → IfErr r (λ e. e ≡ Failed → R)
-    → ((b : Bool) → P b → Same × (b ≡ full) × Appends old.written new.written text)
+pub by_end : {A Same Q R : Type 0} {P : A → Type 0} (f : A → Bool) (text : List ℕ) (full : Bool) (old new : Output) (r : Result A RecordErr) → IfOk r P → IfErr r (λ e. e ≡ NoMemory → Q) → IfErr r (λ e. e ≡ Failed → R)
+    → ((a : A) → P a → Same × (f a ≡ full) × Appends old.written new.written text)
     → (Q → Same × ((n : ℕ) × Appends old.written new.written (take n text)))
     → (R → Same × ((n : ℕ) × (n < length text) × Appends old.written new.written (take n text) × HasRisen old.faults new.faults))
-    → Same × HasWritten text full r old new
-by_end text full old new (Ok b) p q r f g h = let t = f b p in (t.0, (t.1, t.2))
-by_end text full old new (Err NoMemory) p q r f g h = g (q refl)
-by_end text full old new (Err Failed) p q r f g h = h (r refl)
+    → Same × HasWritten text full (fullness f r) old new
+by_end f text full old new (Ok a) p q r here g h = let t = here a p in (t.0, (t.1, t.2))
+by_end f text full old new (Err NoMemory) p q r here g h = g (q refl)
+by_end f text full old new (Err Failed) p q r here g h = h (r refl)
 
 -- where there was no memory before the run began
-pub want_memory : (text : List ℕ) (full : Bool) (r : Result Bool RecordErr) (old : Output) → IsErrAnd r (λ e. e ≡ NoMemory) → HasWritten text full r old old
-want_memory text full (Ok b) old h = absurd h
-want_memory text full (Err e) old h = subst (λ e. HasWritten text full (Err e) old old) (sym h) (0, Appends-nil old.written)
+pub want_memory : {A : Type 0} (f : A → Bool) (text : List ℕ) (full : Bool) (r : Result A RecordErr) (old : Output) → IsErrAnd r (λ e. e ≡ NoMemory) → HasWritten text full (fullness f r) old old
+want_memory f text full (Ok a) old h = absurd h
+want_memory f text full (Err e) old h = subst (λ e. HasWritten text full (Err e) old old) (sym h) (0, Appends-nil old.written)
 
 -- what is written of a setup and a workload is written of the script that they were taken from
 pub named_written : (n : NamedScript) (setup : SetupData) (work : List (List Updates)) (labels l : Labels) (es given : List Event) (count : ℕ) (r : Result Bool RecordErr) (old new : Output) → n ≡ named_script setup work labels es
@@ -74,3 +74,7 @@ named_written n setup work labels l es given count r old new named is same count
 pub on_ok : {A E P : Type 0} (r : Result A E) → P → OnOk r P
 on_ok (Ok a) p = p
 on_ok (Err e) p = tt
+
+pub if_is_ok : {A E : Type 0} (r : Result A E) {P Q : A → Type 0} → IfOk r P → ((a : A) → P a → Q a) → IfOk r Q
+if_is_ok (Ok a) h f = f a h
+if_is_ok (Err e) h f = tt

@@ -5,7 +5,10 @@ use Rattle.std.specs.Io.KnownBytes.{Appends, Consumes, IsAtEnd}
 use Rattle.whips_io.specs.Bytes.{ConsumesExactly}
 use Rattle.whips_io.specs.Counts.{HasRisen}
 use Rattle.whips_reports.specs.Reported.{reported}
+use Rattle.whips_store.specs.Stores.{StoreState}
+use Rattle.whips_contents.specs.Contents.{LoadedSource}
 use Rattle.whips_script.specs.Script.{NamedScript, script_of}
+use Rattle.whips_world.specs.Runs.{EndsWith}
 use Rattle.whips_headline_laws.specs.Headline.{Headline}
 use Rattle.whips_run.specs.Answer.{line, run_of_script, report_of, answer}
 
@@ -44,6 +47,12 @@ IsOutcome words old new faults faults' usage = (is_run words ≡ false) × Consu
 IsOutcome words old new faults faults' read_fault = (is_run words ≡ true) × HasRisen faults faults'
 IsOutcome words old new faults faults' too_long = (is_run words ≡ true) × ConsumesExactly 16777217 old new
 IsOutcome words old new faults faults' (whole bytes) = (is_run words ≡ true) × (length bytes ≤ 16777216) × Consumes old new bytes × IsAtEnd new
+
+-- The bytes are a script, and its run left these sources and this store.
+pub record HasLeft (bytes : List ℕ) (sources : List LoadedSource) (store : StoreState) : Type 0 where
+  pub named : NamedScript
+  pub is : script_of bytes ≡ Ok named
+  pub ended : EndsWith named.script named.events sources store
 
 -- The bytes are a script, what was written is its report, and that report meets the headline.
 pub record MeetsHeadline (bytes : List ℕ) (old new : Option (List ℕ)) : Type 0 where

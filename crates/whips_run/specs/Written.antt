@@ -6,6 +6,11 @@ use Rattle.whips_report.specs.declared.sink.RecordErr.{RecordErr}
 use Rattle.whips_report.specs.declared.sink.RecordErr.TheVariants.{NoMemory, Failed}
 use Rattle.whips_report.specs.Told.{Output}
 
+-- Whether the run is full, where it came to its end.
+abbrev pub fullness : {A : Type 0} → (A → Bool) → Result A RecordErr → Result Bool RecordErr
+fullness is_full (Ok ran) = Ok (is_full ran)
+fullness is_full (Err e) = Err e
+
 -- By how a run ended: the whole report, and whether the run is full; a first part of it; or one that isn't all of it, and the output's count of faults has risen.
 abbrev pub HasWritten : List ℕ → Bool → Result Bool RecordErr → (old new : Output) → Type 0
 HasWritten report is_full (Ok full) old new = (full ≡ is_full) × Appends old.written new.written report

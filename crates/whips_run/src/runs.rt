@@ -9,12 +9,12 @@ ghost use Rattle.whips_setup.specs.Refusals.{IsSetup};
 ghost use Rattle.whips_setup.specs.Workloads.{IsWorkload};
 ghost use Rattle.whips_facts.specs.Values.{IsValidScript};
 ghost use Rattle.whips_core.specs.Cores.{AreFresh};
-ghost use Rattle.whips_world.specs.Runs.{scheduled, TellsPart, TellsWhole};
+ghost use Rattle.whips_world.specs.Runs.{scheduled, EndsWith, TellsPart, TellsWhole};
 ghost use Rattle.whips_reports.specs.Reported.{listed, run_of};
 ghost use Rattle.whips_reports.specs.Lines.{report};
 ghost use Rattle.whips_report.specs.Told.{output_at};
 ghost use Rattle.whips_run.specs.Answer.{run_of_script, report_of};
-ghost use Rattle.whips_run.specs.Written.{HasWritten};
+ghost use Rattle.whips_run.specs.Written.{fullness, HasWritten};
 
 use crate::sources::sources_of;
 use std::alloc::Global;
@@ -25,24 +25,28 @@ use whips_report::{Labels, LineSink, RecordErr, RecordSink};
 use whips_script::{Script, ScriptParts};
 use whips_setup::{Setup, Workload};
 use whips_source::Held;
-use whips_world::{Schedule, run};
+use whips_world::{Ran, Schedule, run};
 
-/// Runs a setup over these sources by a schedule, in plain memory. It answers whether a view had too few slots.
+/// Runs a setup over these sources by a schedule, in plain memory. It hands back what the run left.
 fn run_sources<K: RecordSink>(
     alloc: Global,
     setup: Setup,
     sources: Vec<SourceQueues<Held>>,
     schedule: &Schedule,
     sink: &mut K,
-) -> Result<bool, RecordErr>
+) -> Result<Ran<Held, Plain>, RecordErr>
     requires { AreFresh setup sources.items }
-    ensures told { IfOk result (λ full. (work : List (List Updates)) → IsWorkload setup work
+    ensures told { IfOk result (λ ran. (work : List (List Updates)) → IsWorkload setup work
         → sources.items ≡ map_with_place (new_loaded_source setup) 0 work
         → TellsWhole K.told (record {
           script = scheduled setup work schedule.now.sessions;
           events = schedule.now.events.now;
           sink = sink.old;
-        }) sink.new full) }
+        }) sink.new ran.is_full) }
+    ensures ended { IfOk result (λ ran. (work : List (List Updates)) → IsWorkload setup work
+        → sources.items ≡ map_with_place (new_loaded_source setup) 0 work
+        → EndsWith (scheduled setup work schedule.now.sessions) schedule.now.events.now
+        ran.sources.items ran.store) }
     ensures memory { IfErr result (λ r. r ≡ RecordErr.NoMemory → (work : List (List Updates))
         → IsWorkload setup work
         → sources.items ≡ map_with_place (new_loaded_source setup) 0 work
@@ -61,25 +65,26 @@ fn run_sources<K: RecordSink>(
         }) sink.new) }
 {
     let store = Plain::make(alloc, &setup)?;
-    let ran = run(setup, sources, store, schedule, sink)?;
-    Ok(ran.is_full)
+    run(setup, sources, store, schedule, sink)
 }
 
-/// Runs a setup and a workload of it by a schedule, in plain memory. It answers whether a view had too few slots.
+/// Runs a setup and a workload of it by a schedule, in plain memory. It hands back what the run left.
 fn run_work<K: RecordSink>(
     alloc: Global,
     setup: Setup,
     work: Workload,
     schedule: &Schedule,
     sink: &mut K,
-) -> Result<bool, RecordErr>
+) -> Result<Ran<Held, Plain>, RecordErr>
     requires setup { IsSetup setup }
     requires work { IsWorkload setup work }
-    ensures told { IfOk result (λ full. TellsWhole K.told (record {
+    ensures told { IfOk result (λ ran. TellsWhole K.told (record {
       script = scheduled setup work schedule.now.sessions;
       events = schedule.now.events.now;
       sink = sink.old;
-    }) sink.new full) }
+    }) sink.new ran.is_full) }
+    ensures ended { IfOk result (λ ran. EndsWith (scheduled setup work schedule.now.sessions)
+        schedule.now.events.now ran.sources.items ran.store) }
     ensures memory { IfErr result (λ r. r ≡ RecordErr.NoMemory → TellsPart K.told (record {
       script = scheduled setup work schedule.now.sessions;
       events = schedule.now.events.now;
@@ -102,17 +107,19 @@ fn run_lines<O: Sink>(
     work: Workload,
     schedule: &Schedule,
     sink: &mut LineSink<O>,
-) -> Result<bool, RecordErr>
+) -> Result<Ran<Held, Plain>, RecordErr>
     requires setup { IsSetup setup }
     requires work { IsWorkload setup work }
     requires same { sink.old.setup.now ≡ setup }
-    ensures { (sink.new.output.ghost_name ≡ sink.old.output.ghost_name)
+    ensures written { (sink.new.output.ghost_name ≡ sink.old.output.ghost_name)
         × HasWritten (report (scheduled setup work schedule.now.sessions) sink.old.labels.now
         (listed schedule.now.events.now))
         (run_of (scheduled setup work schedule.now.sessions)
-        (listed schedule.now.events.now)).is_full result
+        (listed schedule.now.events.now)).is_full (fullness (λ ran. ran.is_full) result)
         (output_at O.written O.faults sink.old.output.now)
         (output_at O.written O.faults sink.new.output.now) }
+    ensures ended { IfOk result (λ ran. EndsWith (scheduled setup work schedule.now.sessions)
+        schedule.now.events.now ran.sources.items ran.store) }
 {
     run_work(alloc, setup, work, schedule, sink)
 }
@@ -132,15 +139,18 @@ fn write_job<O: Sink>(
     labels: &Labels,
     setup: &Setup,
     output: &mut O,
-) -> Result<bool, RecordErr>
+) -> Result<Ran<Held, Plain>, RecordErr>
     requires setup { IsSetup job.setup }
     requires work { IsWorkload job.setup job.work }
     requires same { setup.now ≡ job.setup }
-    ensures { HasWritten (report (scheduled job.setup job.work schedule.now.sessions) labels.now
+    ensures written { HasWritten (report (scheduled job.setup job.work schedule.now.sessions) labels.now
         (listed schedule.now.events.now))
         (run_of (scheduled job.setup job.work schedule.now.sessions)
-        (listed schedule.now.events.now)).is_full result
+        (listed schedule.now.events.now)).is_full (fullness (λ ran. ran.is_full) result)
         (output_at O.written O.faults output.old) (output_at O.written O.faults output.new) }
+    ensures ended { IfOk result (λ ran. EndsWith
+        (scheduled job.setup job.work schedule.now.sessions)
+        schedule.now.events.now ran.sources.items ran.store) }
 {
     let Job {
         alloc,
@@ -151,14 +161,17 @@ fn write_job<O: Sink>(
     run_lines(alloc, own, work, schedule, &mut sink)
 }
 
-/// Runs the script and writes its report, a record at a time. It answers whether a view had too few slots.
+/// Runs the script and writes its report, a record at a time. It hands back what the run left.
 pub(crate) fn write_report<O: Sink>(
     alloc: Global,
     script: Script,
     output: &mut O,
-) -> Result<bool, RecordErr>
-    ensures written { HasWritten (report_of script) (run_of_script script).is_full result
+) -> Result<Ran<Held, Plain>, RecordErr>
+    ensures written { HasWritten (report_of script) (run_of_script script).is_full
+        (fullness (λ ran. ran.is_full) result)
         (output_at O.written O.faults output.old) (output_at O.written O.faults output.new) }
+    ensures ended { IfOk result (λ ran. EndsWith script.script script.events
+        ran.sources.items ran.store) }
     ensures valid { OnOk result (IsValidScript script.script) }
 {
     let ScriptParts {

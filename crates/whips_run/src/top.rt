@@ -1,19 +1,22 @@
 // The top call.
-ghost use Rattle.std.specs.Prelude.{◌≡◌, ◌≢◌, ◌<◌, ◌⊎◌, ℕ, List, [], length, map, take, string_bytes};
+ghost use Rattle.std.specs.Prelude.{IsSome, IfSome, None, ◌↔◌, ◌≡◌, ◌≢◌, ◌<◌, ◌⊎◌, ℕ, List, [], length, map, take, string_bytes};
 ghost use Rattle.std.specs.Io.KnownBytes.{Appends, Consumes, IsAtEnd};
 ghost use Rattle.whips_io.specs.Counts.{HasRisen};
-ghost use Rattle.whips_run.specs.Outcome.{is_run, Outcome, IsOutcome, status_of, text_of, MeetsHeadline};
+ghost use Rattle.whips_run.specs.Outcome.{is_run, Outcome, IsOutcome, status_of, text_of, HasLeft, MeetsHeadline};
 
 use crate::answers::answer_to;
 use crate::writing::end_with;
 use std::alloc::Global;
 use whips_io::{ReadErr, Sink, Source, read_all};
+use whips_plain::Plain;
+use whips_source::Held;
+use whips_world::Ran;
 
 /// The most bytes that an input has.
 const LIMIT: usize = 16_777_216;
 
 /// How a run ended.
-#[derive(Clone, Copy, Debug, PartialEq, Eq)]
+#[derive(Drop)]
 pub struct Ended {
     /// The status with which the program ends:
     ///
@@ -26,6 +29,17 @@ pub struct Ended {
     /// - 7: a view has too few slots, which ended the run
     /// - 8: the input is longer than 16,777,216 bytes
     pub status: u8,
+    /// The sources and the store that a run left, exactly with 0 and 7.
+    pub ran: Option<Ran<Held, Plain>>,
+}
+
+impl Ended {
+    /// Such a status, of a call that ran no script.
+    pub(crate) fn with(status: u8) -> Ended
+        ensures { result ≡ record { status = status; ran = None } }
+    {
+        Ended { status, ran: None }
+    }
 }
 
 /// Does what the words say: with the one word `run`, reads a script from the input, runs it, and writes the report of
@@ -63,18 +77,22 @@ pub fn run<I: Source, O: Sink>(
     ensures headline { (result.status ≡ 0) ⊎ (result.status ≡ 7) → (bytes : List ℕ)
         × Consumes (I.left input.old) (I.left input.new) bytes × IsAtEnd (I.left input.new)
         × MeetsHeadline bytes (O.written output.old) (O.written output.new) }
+
+    // Exactly then it hands back what the run of that script left.
+    ensures ran { IsSome result.ran ↔ (result.status ≡ 0) ⊎ (result.status ≡ 7) }
+    ensures left { IfSome result.ran (λ ran. (bytes : List ℕ)
+        × Consumes (I.left input.old) (I.left input.new) bytes
+        × HasLeft bytes ran.sources.items ran.store) }
 {
     if !is_run(words) {
-        let status = end_with(2, "usage: whips run, check or make START SIZE\n", output);
-        return Ended { status };
+        return Ended::with(end_with(2, "usage: whips run, check or make START SIZE\n", output));
     }
-    let status = match read_all(alloc, input, LIMIT) {
+    match read_all(alloc, input, LIMIT) {
         Ok(bytes) => answer_to(alloc, bytes, output),
-        Err(ReadErr::ReadFault) => end_with(4, "read fault\n", output),
-        Err(ReadErr::TooLong) => end_with(8, "too long\n", output),
-        Err(ReadErr::NoMemory) => 6,
-    };
-    Ended { status }
+        Err(ReadErr::ReadFault) => Ended::with(end_with(4, "read fault\n", output)),
+        Err(ReadErr::TooLong) => Ended::with(end_with(8, "too long\n", output)),
+        Err(ReadErr::NoMemory) => Ended::with(6),
+    }
 }
 
 /// Whether the words are the command `run` alone.
