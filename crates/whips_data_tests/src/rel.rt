@@ -7,7 +7,8 @@ use std::cmp::Ordering;
 use std::collections::HashMap;
 use whips_fixtures::{are_rows, minus, schema, transaction};
 use whips_rel::{
-    Change, DeleteErr, InsertErr, Kind, NoMemory, Relation, Schema, Tuple, Tuples, Update,
+    Change, DeleteErr, InsertErr, Kind, NoMemory, Relation, Schema, Tuple, TupleBuilder, Tuples,
+    Update,
 };
 
 /// Whether it is the tuple (7, 5), by each call.
@@ -23,7 +24,7 @@ fn comes_before(first: &Tuple, second: &Tuple) -> bool {
 
 /// Whether the tuple (8) comes behind the tuple.
 fn comes_before_eight(alloc: Global, tuple: &Tuple) -> Result<bool, NoMemory> {
-    let later = Tuple::of(vec![in alloc; 8u64]?)?;
+    let later = Tuple::from_slice(alloc, &[8])?;
     Ok(comes_before(tuple, &later))
 }
 
@@ -196,6 +197,28 @@ fn is_deleted(alloc: Global) -> Result<bool, NoMemory> {
 #[test]
 fn a_row_is_found_and_deleted_by_its_key(rt: HostRuntime) {
     assert!(rt; matches!(is_deleted(rt.alloc()), Ok(true)));
+}
+
+/// The pair (8, 6), put together code by code.
+fn eight_six(alloc: Global) -> Result<Tuple, NoMemory> {
+    let mut codes = TupleBuilder::new(alloc);
+    codes.push(8)?;
+    codes.push(6)?;
+    codes.finish()
+}
+
+/// Whether the row (3, 6) goes by a pair with its key, which once more changes nothing.
+fn goes_by_a_pair(alloc: Global) -> Result<bool, NoMemory> {
+    let mut relation = two(alloc)?;
+    let pair = eight_six(alloc)?;
+    relation.delete_like(&pair)?;
+    relation.delete_like(&pair)?;
+    holds(&relation, &[&[2, 4]])
+}
+
+#[test]
+fn a_row_is_deleted_by_a_tuple_with_its_key(rt: HostRuntime) {
+    assert!(rt; matches!(goes_by_a_pair(rt.alloc()), Ok(true)));
 }
 
 /// Puts the keys below 600 in, in an order that leaps by 7.

@@ -12,7 +12,7 @@ use crate::relation::read_place;
 use crate::{ReadErr, Text};
 use serde_json::Value;
 use std::alloc::Global;
-use whips_rel::{DeleteErr, InsertErr, Relation, Trans, Tuple, Update};
+use whips_rel::{DeleteErr, InsertErr, Relation, Trans, Tuple, TupleBuilder, Update};
 
 /// The greatest number value.
 const GREATEST: u64 = 999_999_999_999;
@@ -44,11 +44,11 @@ fn read_codes(alloc: Global, value: &Value, width: usize) -> Result<Tuple, ReadE
     if items.len() != width {
         return Err(ReadErr::Unbuilt);
     }
-    let mut codes = Vec::new(alloc);
+    let mut codes = TupleBuilder::new(alloc);
     for item in items {
         codes.push(read_number(item)?)?;
     }
-    Ok(Tuple::of(codes)?)
+    Ok(codes.finish()?)
 }
 
 /// Puts in a row whose key isn't there yet, and gives it.

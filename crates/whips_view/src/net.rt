@@ -8,7 +8,7 @@ ghost use Rattle.whips_view.specs.ViewDefs.{keyed};
 
 use crate::ViewDef;
 use std::alloc::Global;
-use whips_rel::{NoMemory, Schema, Trans, Tuple, Update};
+use whips_rel::{NoMemory, Schema, Trans, Tuple, TupleBuilder, Update};
 
 /// Where the row with the tuple's key is, or where it would go.
 fn place(schema: &Schema, rows: &[Tuple], tuple: &Tuple) -> Result<usize, usize>
@@ -169,11 +169,11 @@ fn add_given(
 fn codes_at(alloc: Global, columns: &[u32], tuple: &Tuple) -> Result<Tuple, NoMemory>
     ensures { IfOk result (λ k. k ≡ at_columns columns.now tuple.now) }
 {
-    let mut codes = Vec::new(alloc);
+    let mut codes = TupleBuilder::new(alloc);
     for column in columns {
         codes.push(tuple.code_in(*column))?;
     }
-    Tuple::of(codes)
+    codes.finish()
 }
 
 /// Adds the key of each row that meets the part, beside its part.

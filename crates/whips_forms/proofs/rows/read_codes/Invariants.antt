@@ -7,6 +7,6 @@ use Rattle.whips_forms.proofs.rows.read_codes.Given as goal
 
 abbrev pub invariant-loop-item : goal.invariant-loop-item
 invariant-loop-item l = record {
-  read : read_on view number_in l.codes.items (drop l.item-index l.items) ≡ each number_in (map view l.items);
-  count : length l.codes.items ≡ l.item-index;
+  read : read_on view number_in l.codes (drop l.item-index l.items) ≡ each number_in (map view l.items);
+  count : length l.codes ≡ l.item-index;
 }
