@@ -4,6 +4,7 @@ ghost use Rattle.whips_reports.specs.Lines.{words, counts_words, event_words, fe
 ghost use Rattle.whips_report.specs.Texts.{spaced};
 
 use crate::Labels;
+use itoa::Buffer;
 use std::alloc::AllocError;
 use whips_forms::Text;
 use whips_setup::Event;
@@ -13,7 +14,10 @@ fn push_count(text: &mut String, name: &str, count: u64) -> Result<(), AllocErro
     ensures { OnOk result (string_bytes text.new
         ≡ string_bytes text.old ++ 32 ∷ (name.now ++ 61 ∷ decimal count)) }
 {
-    write!(text, " {name}={count}")
+    text.push(' ')?;
+    text.push_str(name)?;
+    text.push('=')?;
+    text.push_str(Buffer::new().format(count))
 }
 
 /// Each name with its count, each behind a blank.
