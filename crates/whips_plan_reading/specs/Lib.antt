@@ -1,0 +1,4 @@
+pub mod Events
+pub mod Sessions
+pub mod Schedules
+pub mod Plans

@@ -1,0 +1,5 @@
+pub mod Json
+pub mod Places
+pub mod Reading
+pub mod Members
+pub mod Names
