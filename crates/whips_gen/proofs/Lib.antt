@@ -1,0 +1,4 @@
+mod Updates
+mod Sound
+mod Makings
+mod Small

@@ -1,0 +1,5 @@
+pub mod Shop
+pub mod Made
+pub mod Making
+pub mod Worked
+pub mod Bounds
