@@ -5,3 +5,5 @@
 mod plan;
 #[cfg(test)]
 mod refused;
+#[cfg(test)]
+mod views;

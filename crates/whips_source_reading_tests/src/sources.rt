@@ -62,11 +62,31 @@ const DOCUMENTS: &[Case] = &[
     (r#"{"sources":[]}"#, Code::Shape, "sources"),
     (r#"{"sources":[1,2,3,4,5,6,7,8,9]}"#, Code::Limit, "sources"),
     (r#"{"sources":[3]}"#, Code::Shape, "sources[0]"),
-    (r#"{"sources":[{"name":"A","relations":[],"rows":[]}]}"#, Code::Shape, "sources[0]"),
-    (r#"{"sources":[{"relations":[]}]}"#, Code::Shape, "sources[0].name"),
-    (r#"{"sources":[{"name":"A-B"}]}"#, Code::Name, "sources[0].name"),
-    (r#"{"sources":[{"name":"A"}]}"#, Code::Shape, "sources[0].relations"),
-    (r#"{"sources":[{"name":"A","relations":[]}]}"#, Code::Shape, "sources[0].relations"),
+    (
+        r#"{"sources":[{"name":"A","relations":[],"rows":[]}]}"#,
+        Code::Shape,
+        "sources[0]",
+    ),
+    (
+        r#"{"sources":[{"relations":[]}]}"#,
+        Code::Shape,
+        "sources[0].name",
+    ),
+    (
+        r#"{"sources":[{"name":"A-B"}]}"#,
+        Code::Name,
+        "sources[0].name",
+    ),
+    (
+        r#"{"sources":[{"name":"A"}]}"#,
+        Code::Shape,
+        "sources[0].relations",
+    ),
+    (
+        r#"{"sources":[{"name":"A","relations":[]}]}"#,
+        Code::Shape,
+        "sources[0].relations",
+    ),
     (
         r#"{"sources":[{"name":"A","relations":[1,2,3,4,5]}]}"#,
         Code::Limit,
@@ -77,25 +97,53 @@ const DOCUMENTS: &[Case] = &[
 /// Relations of the first source.
 const RELATIONS: &[Case] = &[
     ("3", Code::Shape, "sources[0].relations[0]"),
-    (r#"{"name":"R","more":1}"#, Code::Shape, "sources[0].relations[0]"),
-    (r#"{"key":["a"]}"#, Code::Shape, "sources[0].relations[0].name"),
+    (
+        r#"{"name":"R","more":1}"#,
+        Code::Shape,
+        "sources[0].relations[0]",
+    ),
+    (
+        r#"{"key":["a"]}"#,
+        Code::Shape,
+        "sources[0].relations[0].name",
+    ),
     (r#"{"name":7}"#, Code::Shape, "sources[0].relations[0].name"),
     (r#"{"name":""}"#, Code::Name, "sources[0].relations[0].name"),
-    (r#"{"name":"1R"}"#, Code::Name, "sources[0].relations[0].name"),
+    (
+        r#"{"name":"1R"}"#,
+        Code::Name,
+        "sources[0].relations[0].name",
+    ),
     (
         r#"{"name":"R23456789012345678901234567890123"}"#,
         Code::Name,
         "sources[0].relations[0].name",
     ),
-    (r#"{"name":"R"}"#, Code::Shape, "sources[0].relations[0].columns"),
-    (r#"{"name":"R","columns":[]}"#, Code::Shape, "sources[0].relations[0].columns"),
+    (
+        r#"{"name":"R"}"#,
+        Code::Shape,
+        "sources[0].relations[0].columns",
+    ),
+    (
+        r#"{"name":"R","columns":[]}"#,
+        Code::Shape,
+        "sources[0].relations[0].columns",
+    ),
     (
         r#"{"name":"R","columns":[1,2,3,4,5,6,7,8,9]}"#,
         Code::Limit,
         "sources[0].relations[0].columns",
     ),
-    (r#"{"name":"R","columns":["a"]}"#, Code::Shape, "sources[0].relations[0].columns[0]"),
-    (r#"{"name":"R","columns":[["a"]]}"#, Code::Shape, "sources[0].relations[0].columns[0]"),
+    (
+        r#"{"name":"R","columns":["a"]}"#,
+        Code::Shape,
+        "sources[0].relations[0].columns[0]",
+    ),
+    (
+        r#"{"name":"R","columns":[["a"]]}"#,
+        Code::Shape,
+        "sources[0].relations[0].columns[0]",
+    ),
     (
         r#"{"name":"R","columns":[[1,"number"]]}"#,
         Code::Shape,
@@ -162,21 +210,61 @@ const ROWS: &[Case] = &[
     ("3", Code::Shape, "sources[0].relations[0].rows"),
     ("[3]", Code::Shape, "sources[0].relations[0].rows[0]"),
     ("[[1]]", Code::Shape, "sources[0].relations[0].rows[0]"),
-    (r#"[[1,"x",2]]"#, Code::Shape, "sources[0].relations[0].rows[0]"),
-    (r#"[["x","x"]]"#, Code::Value, "sources[0].relations[0].rows[0][0]"),
-    (r#"[[-1,"x"]]"#, Code::Value, "sources[0].relations[0].rows[0][0]"),
-    (r#"[[-0,"x"]]"#, Code::Value, "sources[0].relations[0].rows[0][0]"),
-    (r#"[[1.5,"x"]]"#, Code::Value, "sources[0].relations[0].rows[0][0]"),
-    (r#"[[1e0,"x"]]"#, Code::Value, "sources[0].relations[0].rows[0][0]"),
-    (r#"[[1000000000000,"x"]]"#, Code::Value, "sources[0].relations[0].rows[0][0]"),
-    (r#"[[1,"x"],[2,2]]"#, Code::Value, "sources[0].relations[0].rows[1][1]"),
+    (
+        r#"[[1,"x",2]]"#,
+        Code::Shape,
+        "sources[0].relations[0].rows[0]",
+    ),
+    (
+        r#"[["x","x"]]"#,
+        Code::Value,
+        "sources[0].relations[0].rows[0][0]",
+    ),
+    (
+        r#"[[-1,"x"]]"#,
+        Code::Value,
+        "sources[0].relations[0].rows[0][0]",
+    ),
+    (
+        r#"[[-0,"x"]]"#,
+        Code::Value,
+        "sources[0].relations[0].rows[0][0]",
+    ),
+    (
+        r#"[[1.5,"x"]]"#,
+        Code::Value,
+        "sources[0].relations[0].rows[0][0]",
+    ),
+    (
+        r#"[[1e0,"x"]]"#,
+        Code::Value,
+        "sources[0].relations[0].rows[0][0]",
+    ),
+    (
+        r#"[[1000000000000,"x"]]"#,
+        Code::Value,
+        "sources[0].relations[0].rows[0][0]",
+    ),
+    (
+        r#"[[1,"x"],[2,2]]"#,
+        Code::Value,
+        "sources[0].relations[0].rows[1][1]",
+    ),
     (
         r#"[[1,"0123456789012345678901234567890123456789012345678901234567890123x"]]"#,
         Code::Value,
         "sources[0].relations[0].rows[0][1]",
     ),
-    (r#"[[1,"x"],[2,"x"],[1,"y"]]"#, Code::Key, "sources[0].relations[0].rows[2]"),
-    (r#"[[1,"x"],[1,2]]"#, Code::Value, "sources[0].relations[0].rows[1][1]"),
+    (
+        r#"[[1,"x"],[2,"x"],[1,"y"]]"#,
+        Code::Key,
+        "sources[0].relations[0].rows[2]",
+    ),
+    (
+        r#"[[1,"x"],[1,2]]"#,
+        Code::Value,
+        "sources[0].relations[0].rows[1][1]",
+    ),
 ];
 
 /// What stands before the updates of a source.
@@ -193,27 +281,91 @@ const UPDATES: &[Case] = &[
     ("[3]", Code::Shape, "sources[0].updates[0]"),
     ("[[]]", Code::Shape, "sources[0].updates[0]"),
     (r#"[["insert","R"]]"#, Code::Shape, "sources[0].updates[0]"),
-    (r#"[["insert","R",[2,"x"],0]]"#, Code::Shape, "sources[0].updates[0]"),
-    (r#"[[0,"R",[2,"x"]]]"#, Code::Shape, "sources[0].updates[0][0]"),
-    (r#"[["replace","R",[2,"x"]]]"#, Code::Shape, "sources[0].updates[0][0]"),
-    (r#"[["all","R",[2,"x"]]]"#, Code::Shape, "sources[0].updates[0][0]"),
-    (r#"[["insert",0,[2,"x"]]]"#, Code::Shape, "sources[0].updates[0][1]"),
-    (r#"[["insert","T",[2,"x"]]]"#, Code::Name, "sources[0].updates[0][1]"),
-    (r#"[["insert","S",[2]]]"#, Code::Name, "sources[0].updates[0][1]"),
-    (r#"[["insert","R",2]]"#, Code::Shape, "sources[0].updates[0][2]"),
-    (r#"[["insert","R",[2]]]"#, Code::Shape, "sources[0].updates[0][2]"),
-    (r#"[["insert","R",[2,3]]]"#, Code::Value, "sources[0].updates[0][2][1]"),
-    (r#"[["insert","R",[1,3]]]"#, Code::Value, "sources[0].updates[0][2][1]"),
-    (r#"[["insert","R",[1,"y"]]]"#, Code::Present, "sources[0].updates[0]"),
+    (
+        r#"[["insert","R",[2,"x"],0]]"#,
+        Code::Shape,
+        "sources[0].updates[0]",
+    ),
+    (
+        r#"[[0,"R",[2,"x"]]]"#,
+        Code::Shape,
+        "sources[0].updates[0][0]",
+    ),
+    (
+        r#"[["replace","R",[2,"x"]]]"#,
+        Code::Shape,
+        "sources[0].updates[0][0]",
+    ),
+    (
+        r#"[["all","R",[2,"x"]]]"#,
+        Code::Shape,
+        "sources[0].updates[0][0]",
+    ),
+    (
+        r#"[["insert",0,[2,"x"]]]"#,
+        Code::Shape,
+        "sources[0].updates[0][1]",
+    ),
+    (
+        r#"[["insert","T",[2,"x"]]]"#,
+        Code::Name,
+        "sources[0].updates[0][1]",
+    ),
+    (
+        r#"[["insert","S",[2]]]"#,
+        Code::Name,
+        "sources[0].updates[0][1]",
+    ),
+    (
+        r#"[["insert","R",2]]"#,
+        Code::Shape,
+        "sources[0].updates[0][2]",
+    ),
+    (
+        r#"[["insert","R",[2]]]"#,
+        Code::Shape,
+        "sources[0].updates[0][2]",
+    ),
+    (
+        r#"[["insert","R",[2,3]]]"#,
+        Code::Value,
+        "sources[0].updates[0][2][1]",
+    ),
+    (
+        r#"[["insert","R",[1,3]]]"#,
+        Code::Value,
+        "sources[0].updates[0][2][1]",
+    ),
+    (
+        r#"[["insert","R",[1,"y"]]]"#,
+        Code::Present,
+        "sources[0].updates[0]",
+    ),
     (
         r#"[["insert","R",[2,"x"]],["insert","R",[2,"y"]]]"#,
         Code::Present,
         "sources[0].updates[1]",
     ),
-    (r#"[["delete","R",[1,"x"]]]"#, Code::Shape, "sources[0].updates[0][2]"),
-    (r#"[["delete","R",["x"]]]"#, Code::Value, "sources[0].updates[0][2][0]"),
-    (r#"[["delete","R",[2]]]"#, Code::Absent, "sources[0].updates[0]"),
-    (r#"[["delete","R",[1]],["delete","R",[1]]]"#, Code::Absent, "sources[0].updates[1]"),
+    (
+        r#"[["delete","R",[1,"x"]]]"#,
+        Code::Shape,
+        "sources[0].updates[0][2]",
+    ),
+    (
+        r#"[["delete","R",["x"]]]"#,
+        Code::Value,
+        "sources[0].updates[0][2][0]",
+    ),
+    (
+        r#"[["delete","R",[2]]]"#,
+        Code::Absent,
+        "sources[0].updates[0]",
+    ),
+    (
+        r#"[["delete","R",[1]],["delete","R",[1]]]"#,
+        Code::Absent,
+        "sources[0].updates[1]",
+    ),
     (r#"[["all",3]]"#, Code::Shape, "sources[0].updates[0][1]"),
     (r#"[["all",[]]]"#, Code::Shape, "sources[0].updates[0][1]"),
     (
@@ -221,7 +373,11 @@ const UPDATES: &[Case] = &[
         Code::Limit,
         "sources[0].updates[0][1]",
     ),
-    (r#"[["all",[["all",[]]]]]"#, Code::Shape, "sources[0].updates[0][1][0]"),
+    (
+        r#"[["all",[["all",[]]]]]"#,
+        Code::Shape,
+        "sources[0].updates[0][1][0]",
+    ),
     (
         r#"[["all",[["insert","R",[2,"x"]],["insert","R",[2,"y"]]]]]"#,
         Code::Present,
@@ -242,7 +398,11 @@ const BEFORE_SECOND: &str =
 /// Second sources.
 const SECOND: &[Case] = &[
     (r#"{"name":"A"}"#, Code::Name, "sources[1].name"),
-    (r#"{"name":"B","relations":[{"name":"R"}]}"#, Code::Name, "sources[1].relations[0].name"),
+    (
+        r#"{"name":"B","relations":[{"name":"R"}]}"#,
+        Code::Name,
+        "sources[1].relations[0].name",
+    ),
     (
         r#"{"name":"B","relations":[{"name":"S","columns":[["a","number"]],"key":["a"]},{"name":"S"}]}"#,
         Code::Name,
@@ -290,8 +450,7 @@ fn second_sources_are_refused(rt: HostRuntime) {
 }
 
 /// Two sources. The texts in order are `a`, `b`, `c` and `d`.
-const READ: &str =
-    r#"{"sources":[
+const READ: &str = r#"{"sources":[
         {"name":"A","relations":[{"name":"R","columns":[["a","number"],["b","text"]],"key":["a"],"rows":[[2,"d"],[1,"b"]]}],
             "updates":[["insert","R",[7,"c"]],["all",[["delete","R",[2]],["insert","R",[2,"a"]]]]]},
         {"name":"B","relations":[{"name":"S","columns":[["b","text"]],"key":["b"],"rows":[["d"]]}],"updates":[["delete","S",["d"]]]}]}"#;
