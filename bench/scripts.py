@@ -7,6 +7,7 @@ two      two sources of two relations with 4,096 rows each, 4,096 updates a sour
 two_N    the same with N rows a relation and N updates a source, where N is 256, 512, 1024 or 2048
 fan      a small relation joined to a large one, so that an update of it changes about 47 rows
 listed   two, with 65,536 listed events of which 1,000 begin a scan
+picked   two, with 1,024 updates a source, eight sessions, and a schedule that picks 65,536 events
 """
 import json
 import os
@@ -63,20 +64,20 @@ STOCK = view("stock", ["items", "prices"], [["items.item", "prices.item"]], ["it
              where=[["items.bin", "<", 900]])
 
 
-def two(rows, has_texts=True, seed=1):
-    """Two sources of two relations with so many rows each, and as many updates a source. Without texts a customer's name is
-    a number."""
+def two(rows, seed=1, updates=None):
+    """Two sources of two relations with so many rows each, and so many updates a source: as many as rows where none are
+    given."""
     pick = random.Random(seed)
     keys = rows * 3 // 2
     first, second = Source("A", pick), Source("B", pick)
     first.relation("orders", columns("id", "item", "cust", "qty"), rows, keys,
                    lambda key: [pick.randrange(keys), pick.randrange(keys), pick.randrange(100)])
-    first.relation("customers", [["id", "number"], ["name", "text" if has_texts else "number"]], rows, keys,
-                   lambda key: [f"name {key % 977}" if has_texts else key % 977])
+    first.relation("customers", [["id", "number"], ["name", "text"]], rows, keys,
+                   lambda key: [f"name {key % 977}"])
     second.relation("items", columns("item", "bin"), rows, keys, lambda key: [pick.randrange(1000)])
     second.relation("prices", columns("item", "cents"), rows, keys, lambda key: [pick.randrange(100000)])
-    sold = [first.update("orders" if pick.random() < 0.7 else "customers") for _ in range(rows)]
-    moved = [second.update("items" if pick.random() < 0.5 else "prices") for _ in range(rows)]
+    sold = [first.update("orders" if pick.random() < 0.7 else "customers") for _ in range(updates or rows)]
+    moved = [second.update("items" if pick.random() < 0.5 else "prices") for _ in range(updates or rows)]
     return {"sources": [first.written(sold), second.written(moved)], "views": [LINES, BILL, STOCK]}
 
 
@@ -96,9 +97,9 @@ WEIGHTS = {"commit A": 10, "commit B": 10, "integrate A": 20, "integrate B": 20,
            "rel": 16, "begin": 12, "change": 30, "publish": 12, "open": 1, "fetch": 6, "close": 0.5}
 
 
-def listed(has_texts=True):
+def listed():
     """`two` with eight sessions and 65,536 events, one in 65 of which begins a scan until there are 1,000."""
-    made = two(4096, has_texts, 4)
+    made = two(4096, 4)
     made["sessions"] = [f"s{session}" for session in range(8)]
     pick, events, scans = random.Random(5), [], 0
     views = [view["name"] for view in made["views"]]
@@ -119,17 +120,21 @@ def listed(has_texts=True):
     return made
 
 
-NAMES = [*(f"two_{size}" for size in SIZES), "two", "fan", "listed"]
+def picked():
+    """`two` with 1,024 updates a source, eight sessions, and a schedule that picks 65,536 events."""
+    made = two(4096, 6, 1024)
+    made["sessions"] = [f"s{session}" for session in range(8)]
+    made["schedule"] = {"start": 1, "steps": 65536}
+    return made
 
 
-def script(name, has_texts=True):
+NAMES = [*(f"two_{size}" for size in SIZES), "two", "fan", "listed", "picked"]
+OTHERS = {"fan": fan, "listed": listed, "picked": picked}
+
+
+def script(name):
     """The text of the script with this name."""
-    if name == "fan":
-        made = fan()
-    elif name == "listed":
-        made = listed(has_texts)
-    else:
-        made = two(int(name[4:] or 4096), has_texts)
+    made = OTHERS[name]() if name in OTHERS else two(int(name[4:] or 4096))
     return json.dumps(made, separators=(",", ":"))
 
 

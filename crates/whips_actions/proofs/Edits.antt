@@ -86,14 +86,16 @@ key_gone before now after places k keys same keyed are last =
     last ∙ ap (λ (r : DraftData). record r { after = without_keys r.columns.key keys r.after }) same ∙ ap (λ (l : List Codes). record before { after = without_keys before.columns.key l before.after }) are
     ∙ ap (λ (l : List Codes). record before { after = l }) (others_left before.columns.key (has_key places k) before.after keyed)
 
--- a row that is found has the width
-pub row_wide : (c own : Columns) (rows found items : List Codes) (p : Codes → Bool) (i : ℕ) (t : Codes) → IsTable c rows → own ≡ c → found ≡ filter p rows → items ≡ found → i < length items → t ≡ get_or items i t → length t ≡ length own.kinds
-row_wide c own rows found items p i t h same is are lt at =
-    let wide : AllByRecursion (λ u. length u ≡ length c.kinds) items = subst (AllByRecursion (λ u. length u ≡ length c.kinds)) (sym (are ∙ is)) (widths_filter (λ u. length u ≡ length c.kinds) p rows h.widths) in
-    ap length at ∙ all_at (λ u. length u ≡ length c.kinds) items i t wide lt ∙ ap (λ (z : Columns). length z.kinds) (sym same)
+-- the rows that are found have the width
+pub found_wide : (d : DraftData) (table : Table) (found rows : List Codes) (p : Codes → Bool) → table ≡ record { columns = d.columns; rows = d.after } → IsTable d.columns d.after → found ≡ filter p table.rows → rows ≡ found
+    → AllByRecursion (λ t. length t ≡ length d.columns.kinds) rows
+found_wide d table found rows p is sound same are =
+    let wide = widths_filter (λ t. length t ≡ length d.columns.kinds) p d.after sound.widths in
+    subst (AllByRecursion (λ t. length t ≡ length d.columns.kinds)) (sym (are ∙ same ∙ ap (λ (t : Table). filter p t.rows) is)) wide
 
--- the keys that were found are those of the rows with the key
-pub keys_found : (d : DraftData) (rows : Table) (places asked : List ℕ) (k : Codes) (keys : List Codes) → rows ≡ record { columns = d.columns; rows = d.after } → asked ≡ places
-    → keys ≡ map (at_columns rows.columns.key) (filter (has_key asked k) rows.rows) → keys ≡ map (at_columns d.columns.key) (filter (has_key places k) d.after)
-keys_found d rows places asked k keys is same found =
-    found ∙ ap (λ (t : Table). map (at_columns t.columns.key) (filter (has_key asked k) t.rows)) is ∙ ap (λ ps. map (at_columns d.columns.key) (filter (has_key ps k) d.after)) same
+-- the keys of the rows that were found are those of the rows with the key
+pub keys_found : (before now : DraftData) (table : Table) (places asked k : List ℕ) (found rows : List Codes) → now ≡ before → table ≡ record { columns = now.columns; rows = now.after } → asked ≡ places
+    → found ≡ filter (has_key asked k) table.rows → rows ≡ found → map (at_columns now.columns.key) rows ≡ map (at_columns before.columns.key) (filter (has_key places k) before.after)
+keys_found before now table places asked k found rows same is asks finds are =
+    let all : rows ≡ filter (has_key places k) now.after = are ∙ finds ∙ ap (λ (t : Table). filter (has_key asked k) t.rows) is ∙ ap (λ ps. filter (has_key ps k) now.after) asks in
+    ap (map (at_columns now.columns.key)) all ∙ ap (λ (d : DraftData). map (at_columns d.columns.key) (filter (has_key places k) d.after)) same

@@ -1,5 +1,5 @@
 //! The core: one event of the pipeline at a time, over the sites of a setup and a store.
-ghost use Rattle.std.specs.Prelude.{◌≡◌, ◌≢◌, Some, IfErr, true, false, OnOk, OnErr, IfOk, find, length, if◌then◌else◌};
+ghost use Rattle.std.specs.Prelude.{◌≡◌, ◌≢◌, Some, IfErr, true, false, OnOk, OnErr, IfOk, find, filter, slice_get, length, if◌then◌else◌};
 ghost use Rattle.whips_flow.specs.Facts.{Facts};
 ghost use Rattle.whips_flow.specs.Progress.{pipeline_events};
 ghost use Rattle.whips_flow.specs.declared.event.Event.TheVariants.{Commit, Answer, Integrate, Manage, Rel, Act, Begin, Change, Publish};
@@ -10,7 +10,7 @@ ghost use Rattle.whips_core.specs.Pipelines.{started};
 ghost use Rattle.whips_core.specs.Cores.{AreFresh, IsRun, done_by};
 ghost use Rattle.whips_core.specs.declared.cores.CoreStep.TheVariants.{Skipped};
 
-use crate::order::{events_of, first_of};
+use crate::order::{count_of, events_of, first_of, nth_of};
 use crate::pipeline::Pipeline;
 use crate::queues::SourceQueues;
 use std::alloc::Global;
@@ -241,6 +241,24 @@ impl<T: Site, S: Store> Core<T, S> {
             → result ≡ find (is_enabled_loaded self.now.loaded) (pipeline_events f) }
     {
         first_of(&self.pipeline, &self.events)
+    }
+
+    /// How many events can be done.
+    pub fn enabled_count(&self) -> usize
+        ensures { (f : Facts) → length f.slots ≡ length self.now.setup.views
+            → length f.transactions ≡ self.now.setup.sources
+            → result ≡ length (filter (is_enabled_loaded self.now.loaded) (pipeline_events f)) }
+    {
+        count_of(&self.pipeline, &self.events)
+    }
+
+    /// The event at this place, from 0, among those that can be done, in the order of `first`.
+    pub fn enabled_at(&self, place: usize) -> Option<Event>
+        ensures { (f : Facts) → length f.slots ≡ length self.now.setup.views
+            → length f.transactions ≡ self.now.setup.sources → result
+            ≡ slice_get (filter (is_enabled_loaded self.now.loaded) (pipeline_events f)) place }
+    {
+        nth_of(&self.pipeline, &self.events, place)
     }
 
     /// Does the event, where it can be done; otherwise nothing changes. `Full` comes exactly where the event is a begin

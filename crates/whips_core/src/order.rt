@@ -1,5 +1,5 @@
 //! The events of the pipeline, in the order in which the drain looks for one that can be done.
-ghost use Rattle.std.specs.Prelude.{◌≡◌, ◌++◌, map, find, length, IfOk, OnOk};
+ghost use Rattle.std.specs.Prelude.{◌≡◌, ◌++◌, map, find, filter, slice_get, length, IfOk, OnOk};
 ghost use Rattle.std.specs.List.{flat_map};
 ghost use Rattle.whips_lists.specs.Lists.{places_from};
 ghost use Rattle.whips_flow.specs.Facts.{Facts};
@@ -107,6 +107,39 @@ pub(crate) fn first_of<T: Site, S: Store>(
     for e in events {
         if pipeline.enabled(e) {
             return Some(*e);
+        }
+    }
+    None
+}
+
+/// How many of the events can be done.
+pub(crate) fn count_of<T: Site, S: Store>(pipeline: &Pipeline<T, S>, events: &[Event]) -> usize
+    ensures { result ≡ length (filter (is_enabled_loaded pipeline.now) events.now) }
+{
+    let mut count = 0;
+    for e in events {
+        if pipeline.enabled(e) {
+            count += 1;
+        }
+    }
+    count
+}
+
+/// The event at this place, from 0, among the events that can be done.
+pub(crate) fn nth_of<T: Site, S: Store>(
+    pipeline: &Pipeline<T, S>,
+    events: &[Event],
+    place: usize,
+) -> Option<Event>
+    ensures { result ≡ slice_get (filter (is_enabled_loaded pipeline.now) events.now) place }
+{
+    let mut left = place;
+    for e in events {
+        if pipeline.enabled(e) {
+            if left == 0 {
+                return Some(*e);
+            }
+            left -= 1;
         }
     }
     None

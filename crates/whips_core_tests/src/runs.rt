@@ -9,7 +9,7 @@ use whips_flow::Event;
 use whips_plain::Plain;
 use whips_rel::{NoMemory, Rows};
 use whips_run::sources_of;
-use whips_script::{Script, ScriptParts, read_script};
+use whips_script_reading::{Script, ScriptParts, read_script};
 use whips_setup::{Cut, Setup};
 use whips_source::Held;
 use whips_store::{Store, StoreErr};

@@ -1,6 +1,7 @@
 //! Documents: what is read, and which refusal comes first.
 use std::alloc::Global;
 use whips_script_reading::{Code, ReadErr, Refusal, read_script};
+use whips_setup::Plan;
 
 /// A document that is refused.
 struct Case {
@@ -75,10 +76,20 @@ const REFUSED: &[Case] = &[
         code: Code::Name,
         place: "sessions[0]",
     },
-    // a picked schedule isn't built, whatever its members are
+    // the start of a picked schedule comes before its number of steps
     Case {
-        text: r#"{"sources":[{"name":"A","relations":[{"name":"R","columns":[["a","number"]],"key":["a"]}]}],"views":[{"name":"V","relations":["R"],"out":["R.a"]}],"schedule":{"start":-1,"steps":2}}"#,
-        code: Code::Unbuilt,
+        text: r#"{"sources":[{"name":"A","relations":[{"name":"R","columns":[["a","number"]],"key":["a"]}]}],"views":[{"name":"V","relations":["R"],"out":["R.a"]}],"schedule":{"start":4294967296,"steps":65537}}"#,
+        code: Code::Limit,
+        place: "schedule.start",
+    },
+    Case {
+        text: r#"{"sources":[{"name":"A","relations":[{"name":"R","columns":[["a","number"]],"key":["a"]}]}],"views":[{"name":"V","relations":["R"],"out":["R.a"]}],"schedule":{"start":1,"steps":65537}}"#,
+        code: Code::Limit,
+        place: "schedule.steps",
+    },
+    Case {
+        text: r#"{"sources":[{"name":"A","relations":[{"name":"R","columns":[["a","number"]],"key":["a"]}]}],"views":[{"name":"V","relations":["R"],"out":["R.a"]}],"schedule":{"start":1}}"#,
+        code: Code::Shape,
         place: "schedule",
     },
 ];
@@ -112,6 +123,14 @@ fn the_first_fault_is_told_at_its_place(rt: HostRuntime) {
 const SHOP: &str =
     r#"{"versions":3,"sources":[{"name":"A","relations":[{"name":"R","columns":[["a","number"],["b","text"]],"key":["a"],"rows":[[1,"tea"],[2,"jam"]]}],"updates":[["delete","R",[1]]]}],"views":[{"name":"V","relations":["R"],"where":[["R.b","!=","milk"]],"out":["R.a","R.b"]}],"sessions":["s"],"schedule":{"events":["open s","rel"]}}"#;
 
+/// Whether the plan lists this many events.
+fn lists(plan: &Plan, count: usize) -> bool {
+    match plan {
+        Plan::Listed(events) => events.as_slice().len() == count,
+        Plan::Picked { .. } => false,
+    }
+}
+
 /// Whether the shop is read with its names, its texts in the order of their bytes, and its events.
 fn is_read(alloc: Global) -> bool {
     match read_script(alloc, SHOP.as_bytes()) {
@@ -124,7 +143,7 @@ fn is_read(alloc: Global) -> bool {
                 & (parts.texts.len() == 3)
                 & (parts.texts.rank("milk") == 1)
                 & (parts.setup.versions() == 3)
-                & (parts.events.as_slice().len() == 2)
+                & lists(&parts.plan, 2)
         }
         Err(_) => false,
     }
@@ -133,4 +152,27 @@ fn is_read(alloc: Global) -> bool {
 #[test]
 fn a_document_is_read_with_its_texts(rt: HostRuntime) {
     assert!(rt; is_read(rt.alloc()));
+}
+
+/// A source, a view, and a schedule whose events are picked.
+const PICKED: &str =
+    r#"{"sources":[{"name":"A","relations":[{"name":"R","columns":[["a","number"]],"key":["a"]}]}],"views":[{"name":"V","relations":["R"],"out":["R.a"]}],"schedule":{"start":4294967295,"steps":65536}}"#;
+
+/// Whether the document is read with its start and its number of steps.
+fn is_picked(alloc: Global) -> bool {
+    match read_script(alloc, PICKED.as_bytes()) {
+        Ok(script) => {
+            let parts = script.into_parts();
+            match parts.plan {
+                Plan::Picked { start, steps } => (start == 4_294_967_295) & (steps == 65_536),
+                Plan::Listed(_) => false,
+            }
+        }
+        Err(_) => false,
+    }
+}
+
+#[test]
+fn a_document_with_a_picked_schedule_is_read(rt: HostRuntime) {
+    assert!(rt; is_picked(rt.alloc()));
 }

@@ -67,10 +67,10 @@ none_fine source place db = record { accepted = refl; within = refl; short = ome
 others_fine : (source place : ℕ) (db : List Table) (list : List Updates) (n : ℕ) → AreFine source place db list n → AreFine source place db list (suc n)
 others_fine source place db list n h = record { accepted = h.accepted; within = h.within; short = omega (arith, h.short) }
 
-abbrev orders_of : List Codes → Table
+abbrev pub orders_of : List Codes → Table
 orders_of rows = record { columns = order_columns; rows = rows }
 
-abbrev items_of : List Codes → Table
+abbrev pub items_of : List Codes → Table
 items_of rows = record { columns = item_columns; rows = rows }
 
 module _ (place : ℕ) (rows : List Codes) (other : Table) (list : List Updates) (n : ℕ) where

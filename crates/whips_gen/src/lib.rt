@@ -2,7 +2,7 @@
 #![tactic(auto)]
 
 ghost use Rattle.std.specs.Prelude.{◌≡◌, [], ◌∷◌};
-ghost use Rattle.whips_gen.specs.Bounds.{ViewsAreSmall};
+ghost use Rattle.whips_gen.specs.Bounds.{ViewsAreSmall, MadeRunsAreNeverFull};
 ghost use Rattle.whips_gen.specs.Made.{made_script, work_of, updates_made};
 ghost use Rattle.whips_gen.specs.Shop.{shop, shop_tables};
 ghost use Rattle.whips_gen.specs.Worked.{one_order, eight_updates};
@@ -26,4 +26,9 @@ pub fn worked_updates()
 /// slots of a view.
 pub fn views_are_small()
     ensures { ViewsAreSmall }
+{}
+
+/// Law: whatever the schedule, a run of a made script is never full.
+pub fn made_runs_are_never_full()
+    ensures { MadeRunsAreNeverFull }
 {}

@@ -24,7 +24,8 @@ use Rattle.whips_runs.specs.Picks.{after_picked_plan}
 use Rattle.whips_facts.specs.Scripts.{Script, SlottedView, value_at, view_at, no_view, slotted_views}
 use Rattle.whips_facts.specs.ScriptFacts.{facts_of}
 use Rattle.whips_facts.specs.Values.{IsValidScript}
-use Rattle.whips_reports.specs.Reported.{Reported, rows_of, reported, listed, picked, run_of}
+use Rattle.whips_setup.specs.declared.plan.Plan.TheVariants.{Listed, Picked}
+use Rattle.whips_reports.specs.Reported.{Reported, rows_of, reported, run_of}
 use Rattle.whips_cut_laws.specs.Cuts.{AllAdvance, committed_at}
 use Rattle.whips_lists.proofs.Options.{some_same}
 use Rattle.whips_lists.proofs.ByPlace.{get_there}
@@ -226,8 +227,8 @@ picked_told : (f : Facts) (start_number steps : ℕ) → Told f (after_picked_pl
 picked_told f start_number steps = picked_keeps f (Told f) (event_told f) steps start_number (start_world f) (start_told f)
 
 pub every_run : EveryRunMeetsHeadline
-every_run s valid (listed es) = met s valid (after_listed_plan (facts_of s) 1 es (start_world (facts_of s))) (listed_told (facts_of s) es) (listed_plan_reached (facts_of s) 1 es (start_world (facts_of s)) (start_reached (facts_of s)))
-every_run s valid (picked start_number steps) = met s valid (after_picked_plan steps (facts_of s) start_number (start_world (facts_of s))) (picked_told (facts_of s) start_number steps) (picked_plan_reached steps (facts_of s) start_number (start_world (facts_of s)) (start_reached (facts_of s)))
+every_run s valid (Listed es) = met s valid (after_listed_plan (facts_of s) 1 es (start_world (facts_of s))) (listed_told (facts_of s) es) (listed_plan_reached (facts_of s) 1 es (start_world (facts_of s)) (start_reached (facts_of s)))
+every_run s valid (Picked start_number steps) = met s valid (after_picked_plan steps (facts_of s) start_number (start_world (facts_of s))) (picked_told (facts_of s) start_number steps) (picked_plan_reached steps (facts_of s) start_number (start_world (facts_of s)) (start_reached (facts_of s)))
 
 -- ---- the printed cuts
 
@@ -242,11 +243,11 @@ finished_told s w h =
     closed_told s d (drained_keeps f (Told f) (event_told f) (work f w.pipeline) w h) d.is_full refl
 
 pub printed_versions : PrintedCutsAreVersions
-printed_versions s (listed es) = (finished_told s (after_listed_plan (facts_of s) 1 es (start_world (facts_of s))) (listed_told (facts_of s) es)).printed
-printed_versions s (picked start_number steps) = (finished_told s (after_picked_plan steps (facts_of s) start_number (start_world (facts_of s))) (picked_told (facts_of s) start_number steps)).printed
+printed_versions s (Listed es) = (finished_told s (after_listed_plan (facts_of s) 1 es (start_world (facts_of s))) (listed_told (facts_of s) es)).printed
+printed_versions s (Picked start_number steps) = (finished_told s (after_picked_plan steps (facts_of s) start_number (start_world (facts_of s))) (picked_told (facts_of s) start_number steps)).printed
 
 pub lines_are_records : LinesAreRecords
 lines_are_records s = (
-  λ es. let w = run_of s (listed es) in records_back s (version_cuts w.pipeline) w.records,
-  λ start_number steps. let w = run_of s (picked start_number steps) in records_back s (version_cuts w.pipeline) w.records,
+  λ es. let w = run_of s (Listed es) in records_back s (version_cuts w.pipeline) w.records,
+  λ start_number steps. let w = run_of s (Picked start_number steps) in records_back s (version_cuts w.pipeline) w.records,
 )

@@ -7,7 +7,8 @@ ghost use Rattle.whips_runs.specs.Records.{version, skip, opened, final, final_r
 ghost use Rattle.whips_runs.specs.World.{listed_records};
 ghost use Rattle.whips_facts.specs.Scripts.{Script};
 ghost use Rattle.whips_facts.specs.ScriptFacts.{facts_of};
-ghost use Rattle.whips_reports.specs.Reported.{reported, listed, run_of};
+ghost use Rattle.whips_setup.specs.declared.plan.Plan.TheVariants.{Listed};
+ghost use Rattle.whips_reports.specs.Reported.{reported, run_of};
 ghost use Rattle.whips_vectors.specs.Readers.{reader_records, idle};
 ghost use Rattle.whips_headline_laws.specs.Headline.{printed_cuts, version_of, cut_of, Headline};
 ghost use Rattle.whips_headline_vectors.specs.Wrong.{early_expiry, two_versions, late_read, unopened, falling, endless, falling_phases, counting, visiting};
@@ -30,8 +31,8 @@ pub fn absent_views_are_not_scanned()
 
 /// A run of a script with an empty view, and a session that visits 3 of its 4 slots.
 pub fn idle_runs_are_reported()
-    ensures counting { reported idle (run_of idle (listed [])) ≡ counting 0 }
-    ensures visiting { reported idle (run_of idle (listed (SessionOpen 0 ∷ SessionScan 0 0
+    ensures counting { reported idle (run_of idle (Listed [])) ≡ counting 0 }
+    ensures visiting { reported idle (run_of idle (Listed (SessionOpen 0 ∷ SessionScan 0 0
         ∷ SessionFetch 0 3 ∷ []))) ≡ visiting 3 }
 {}
 

@@ -22,9 +22,13 @@ names_with sources views sessions = record { sources = sources; views = views; s
 abbrev pub words_of : Text → List Text
 words_of text = slice_split (λ b. b == 32) text
 
--- The number from 1 to 65,536 whose decimal text this is.
+-- The number from `least` to `most` whose decimal text this is.
+abbrev pub decimal_within : (least most : ℕ) → Text → Option ℕ
+decimal_within least most text = only (λ n. nat_le least n && nat_le n most && bytes_eq (decimal n) text) (Some (digits_value 10 text))
+
+-- The number of slots of a fetch whose decimal text this is.
 abbrev pub count_of : Text → Option ℕ
-count_of text = only (λ n. nat_le 1 n && nat_le n 65536 && bytes_eq (decimal n) text) (Some (digits_value 10 text))
+count_of text = decimal_within 1 65536 text
 
 -- The event that is one word.
 abbrev pub bare_event : Text → Option Event

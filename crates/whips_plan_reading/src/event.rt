@@ -1,43 +1,15 @@
 //! The event that a text is.
-ghost use Rattle.std.specs.Prelude.{◌≡◌, ◌≤◌, ◌<◌, ◌&&◌, IfSome, Some, None, length, nat_le, slice_index_or};
+ghost use Rattle.std.specs.Prelude.{◌≡◌, ◌≤◌, ◌<◌, IfSome, Some, None, length};
 ghost use Rattle.whips_reading.specs.Names.{place_of};
-ghost use Rattle.whips_plan_reading.specs.Events.{count_of, bare_event, named_event, paired_event, event_in};
+ghost use Rattle.whips_plan_reading.specs.Events.{bare_event, named_event, paired_event, event_in};
 
+use crate::decimal::decimal_within;
 use crate::names::Names;
 use whips_flow::Event;
 use whips_reading::Text;
 
 /// The most slots that one fetch visits.
 const MOST_SLOTS: u32 = 65_536;
-
-/// Whether the first byte is a digit from 1 to 9.
-fn begins_number(bytes: &[u8]) -> bool
-    ensures { result ≡ (nat_le 49 (slice_index_or bytes.now 0 0)
-        && nat_le (slice_index_or bytes.now 0 0) 57) }
-{
-    match bytes {
-        [] => false,
-        [first, ..] => b'1' <= *first && *first <= b'9',
-    }
-}
-
-/// The number from 1 to the most slots of a fetch that the text is, in decimal and with no zero in front.
-fn count_of(text: &str) -> Option<u32>
-    ensures { result ≡ count_of text.now }
-{
-    if !begins_number(text.as_bytes()) {
-        return None;
-    }
-    match text.parse::<u32>() {
-        Ok(count) => {
-            if count <= MOST_SLOTS {
-                return Some(count);
-            }
-            None
-        }
-        Err(_) => None,
-    }
-}
 
 /// The number of the text among these names.
 fn number_of(names: &[Text], text: &str) -> Option<u32>
@@ -100,7 +72,10 @@ fn paired_event(names: &Names<'_>, word: &str, name: &str, last: &str) -> Option
             number_of(names.sessions(), name)?,
             number_of(names.views(), last)?,
         )),
-        "fetch" => Some(Event::SessionFetch(number_of(names.sessions(), name)?, count_of(last)?)),
+        "fetch" => Some(Event::SessionFetch(
+            number_of(names.sessions(), name)?,
+            decimal_within(last, 1, MOST_SLOTS)?,
+        )),
         _ => None,
     }
 }

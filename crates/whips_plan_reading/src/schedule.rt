@@ -157,7 +157,7 @@ fn is_listed_schedule(value: &Value) -> bool
 }
 
 /// Whether a schedule is an object with `start` and `steps` alone.
-pub fn is_picked_schedule(value: &Value) -> bool
+fn is_picked_schedule(value: &Value) -> bool
     ensures { result ≡ is_picked (view value.now) }
 {
     is_object_of(value, ObjectForm::PickedSchedule)

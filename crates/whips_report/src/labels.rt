@@ -3,7 +3,7 @@ ghost use Rattle.std.specs.Prelude.{◌≡◌};
 ghost use Rattle.whips_reports.specs.Lines.{name_at};
 
 use std::marker::Model;
-use whips_forms::Text;
+use whips_reading::Text;
 
 /// The names of sources, views and sessions by place, and the texts by code.
 #[derive(Drop)]

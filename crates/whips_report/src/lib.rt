@@ -16,4 +16,5 @@ pub use labels::Labels;
 pub use lines::push_lines;
 pub use rec::{Rec, cut_counts};
 pub use sink::{RecordErr, RecordSink};
+pub use words::push_counts;
 pub use writer::LineSink;

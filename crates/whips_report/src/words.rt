@@ -6,7 +6,7 @@ ghost use Rattle.whips_report.specs.Texts.{spaced};
 use crate::Labels;
 use itoa::Buffer;
 use std::alloc::AllocError;
-use whips_forms::Text;
+use whips_reading::Text;
 use whips_setup::Event;
 
 /// A blank, a name and its count.
@@ -20,12 +20,8 @@ fn push_count(text: &mut String, name: &str, count: u64) -> Result<(), AllocErro
     text.push_str(Buffer::new().format(count))
 }
 
-/// Each name with its count, each behind a blank.
-pub(crate) fn push_counts(
-    text: &mut String,
-    names: &[Text],
-    counts: &[u64],
-) -> Result<(), AllocError>
+/// Puts each name with its count behind the text, each behind a blank.
+pub fn push_counts(text: &mut String, names: &[Text], counts: &[u64]) -> Result<(), AllocError>
     ensures { OnOk result (string_bytes text.new
         ≡ string_bytes text.old ++ spaced (counts_words names.now counts.now)) }
 {

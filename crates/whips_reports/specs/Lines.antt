@@ -12,7 +12,8 @@ use Rattle.whips_flow.specs.declared.event.Event.TheVariants.{Commit, Answer, In
 use Rattle.whips_runs.specs.Records.{RunRecord, version, skip, opened, more, read, expired, full, final, final_rows}
 use Rattle.whips_view.specs.ViewDefs.{View, kind_of}
 use Rattle.whips_facts.specs.Scripts.{Script, Bytes, Labels}
-use Rattle.whips_reports.specs.Reported.{Reported, reported, Plan, run_of}
+use Rattle.whips_setup.specs.declared.plan.Plan.{Plan}
+use Rattle.whips_reports.specs.Reported.{Reported, reported, run_of}
 
 abbrev pub name_at : List Bytes → ℕ → Bytes
 name_at names i = slice_index_or names i []

@@ -6,6 +6,8 @@ use Rattle.whips_flow.specs.declared.event.Event.{Event}
 use Rattle.whips_runs.specs.Records.{RunRecord, read, final_rows}
 use Rattle.whips_runs.specs.World.{World, start_world, finished_world, after_listed_plan}
 use Rattle.whips_runs.specs.Picks.{after_picked_plan}
+use Rattle.whips_setup.specs.declared.plan.Plan.{Plan}
+use Rattle.whips_setup.specs.declared.plan.Plan.TheVariants.{Listed, Picked}
 use Rattle.whips_facts.specs.Scripts.{Script, value_at, view_at}
 use Rattle.whips_facts.specs.ScriptFacts.{facts_of}
 
@@ -24,12 +26,7 @@ rows_of s cuts _ = []
 abbrev pub reported : Script → World → List Reported
 reported s w = map (λ r. record { entry = r; rows = rows_of s (version_cuts w.pipeline) r }) w.records
 
--- a schedule lists events, or has the start and the number of steps of a picker
-pub data Plan : Type 0 where
-  listed : List Event → Plan
-  picked : (start steps : ℕ) → Plan
-
 -- the run of a script by a schedule, with its drain; own
 abbrev pub run_of : Script → Plan → World
-run_of s (listed es) = finished_world (facts_of s) (after_listed_plan (facts_of s) 1 es (start_world (facts_of s)))
-run_of s (picked start steps) = finished_world (facts_of s) (after_picked_plan steps (facts_of s) start (start_world (facts_of s)))
+run_of s (Listed es) = finished_world (facts_of s) (after_listed_plan (facts_of s) 1 es (start_world (facts_of s)))
+run_of s (Picked start steps) = finished_world (facts_of s) (after_picked_plan steps (facts_of s) start (start_world (facts_of s)))

@@ -2,9 +2,8 @@
 use Rattle.std.proofs.Common.{◌≡◌, ◌≢◌, ℕ, ◌<◌, List, length, take, Option, Ok, Err, sym, ap, subst, ◌∙◌, ◌⊎◌, ⊎_elim, arith}
 use Rattle.std.specs.Io.KnownBytes.{Appends}
 use Rattle.whips_facts.specs.Values.{IsValidScript}
-use Rattle.whips_reports.specs.Reported.{listed}
-use Rattle.whips_script.specs.declared.Refusal.{Refusal}
-use Rattle.whips_script.specs.Script.{NamedScript, script_of}
+use Rattle.whips_reading.specs.Places.{Refusal}
+use Rattle.whips_script_reading.specs.Script.{NamedScript, script_of}
 use Rattle.whips_headline_laws.proofs.Meets.{every_run}
 use Rattle.whips_run.specs.Answer.{answer, answer_of, run_of_script, run_status, report_of, refusal_text}
 use Rattle.whips_run.specs.Outcome.{MeetsHeadline}
@@ -30,7 +29,7 @@ module _ (bytes : List ℕ) (status : ℕ) (text : List ℕ) (is : answer bytes 
 
 -- the report of a valid script meets the headline
 pub meets : (bytes : List ℕ) (s : NamedScript) (old new : Option (List ℕ)) → script_of bytes ≡ Ok s → IsValidScript s.script → Appends old new (report_of s) → MeetsHeadline bytes old new
-meets bytes s old new is valid written = record { named = s; is = is; written = written; headline = every_run s.script valid (listed s.events) }
+meets bytes s old new is valid written = record { named = s; is = is; written = written; headline = every_run s.script valid s.plan }
 
 -- a status of a whole run is neither that of a fault nor that of want of memory
 pub not_five : (status : ℕ) → (status ≡ 0) ⊎ (status ≡ 7) → status ≢ 5

@@ -1,3 +1,4 @@
 mod Lefts
 mod Reports
 mod Answered
+mod Counted

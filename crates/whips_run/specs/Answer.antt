@@ -1,23 +1,22 @@
 -- What the program answers for a whole input.
 use Rattle.std.specs.Prelude.{ℕ, List, [], ◌∷◌, ◌++◌, codes, Result, Ok, Err, if◌then◌else◌}
 use Rattle.whips_runs.specs.World.{World}
-use Rattle.whips_reports.specs.Reported.{listed, run_of}
+use Rattle.whips_reports.specs.Reported.{run_of}
 use Rattle.whips_reports.specs.Lines.{report}
-use Rattle.whips_script.specs.declared.Refusal.{Refusal}
-use Rattle.whips_script.specs.declared.Refusal.TheVariants.{Syntax, Unbuilt}
-use Rattle.whips_script.specs.Script.{NamedScript, script_of}
+use Rattle.whips_reading.specs.Places.{Refusal, code_word, place_text}
+use Rattle.whips_script_reading.specs.Script.{NamedScript, script_of}
 
 -- A text with a line feed.
 abbrev pub line : List ℕ → List ℕ
 line text = text ++ 10 ∷ []
 
--- The run of a script: the events of its schedule in order, and then the first event that can be done again and again, until none is left or a view has too few slots.
+-- The run of a script: the events of its plan, and then the first event that can be done again and again, until none is left or a view has too few slots.
 abbrev pub run_of_script : NamedScript → World
-run_of_script n = run_of n.script (listed n.events)
+run_of_script n = run_of n.script n.plan
 
 -- The report of that run.
 abbrev pub report_of : NamedScript → List ℕ
-report_of n = report n.script n.labels (listed n.events)
+report_of n = report n.script n.labels n.plan
 
 -- The status of a run to its end: 7 where a view had too few slots, which ended it.
 abbrev pub run_status : World → ℕ
@@ -25,8 +24,7 @@ run_status w = if w.is_full then 7 else 0
 
 -- The text of a refusal: its code, and its place.
 abbrev pub refusal_text : Refusal → List ℕ
-refusal_text Syntax = line (codes "refused Syntax document")
-refusal_text Unbuilt = line (codes "refused Unbuilt document")
+refusal_text refusal = line (codes "refused " ++ code_word refusal.code ++ codes " " ++ place_text refusal.place)
 
 -- The status and the text for bytes that are a script, and for those that are refused.
 abbrev pub answer_of : Result NamedScript Refusal → ℕ × List ℕ

@@ -1,5 +1,5 @@
 //! What the program answers to a whole input.
-ghost use Rattle.std.specs.Prelude.{IsSome, IfSome, ◌↔◌, ◌≡◌, ◌≢◌, ◌<◌, ◌⊎◌, ℕ, length, take};
+ghost use Rattle.std.specs.Prelude.{IsSome, IfSome, IfOk, ◌↔◌, ◌≡◌, ◌≢◌, ◌<◌, ◌⊎◌, ℕ, [], length, take, string_bytes};
 ghost use Rattle.std.specs.Io.KnownBytes.{Appends};
 ghost use Rattle.whips_io.specs.Counts.{HasRisen};
 ghost use Rattle.whips_facts.specs.Values.{IsValidScript};
@@ -11,17 +11,37 @@ use crate::Ended;
 use crate::runs::write_report;
 use crate::writing::end_with;
 use std::alloc::Global;
+use std::fmt::Write;
 use whips_io::Sink;
+use whips_rel::NoMemory;
 use whips_report::RecordErr;
-use whips_script::{Refusal, Script, ScriptErr, read_script};
+use whips_script_reading::{ReadErr, Refusal, Script, read_script};
 
 /// The text of a refusal.
-fn refusal_text(refusal: Refusal) -> &'static str
-    ensures { result.now ≡ refusal_text refusal }
+fn refusal_text(alloc: Global, refusal: &Refusal) -> Result<String, NoMemory>
+    ensures { IfOk result (λ text. string_bytes text ≡ refusal_text refusal.now) }
 {
-    match refusal {
-        Refusal::Syntax => "refused Syntax document\n",
-        Refusal::Unbuilt => "refused Unbuilt document\n",
+    let place = refusal.place_text(alloc)?;
+    let code = refusal.code().word();
+    let mut text = String::new(alloc);
+    write!(text, "refused {code} {}\n", place.as_str())?;
+    Ok(text)
+}
+
+/// Writes the refusal, and gives the status.
+fn answer_refusal<O: Sink>(alloc: Global, refusal: &Refusal, output: &mut O) -> u8
+    ensures ended { result ≢ 5 → result ≢ 6 → (result ≡ 3)
+        × Appends (O.written output.old) (O.written output.new) (refusal_text refusal.now) }
+    ensures sink_failed { result ≡ 5 → (n : ℕ) × (n < length (refusal_text refusal.now))
+        × Appends (O.written output.old) (O.written output.new)
+        (take n (refusal_text refusal.now))
+        × HasRisen (O.faults output.old) (O.faults output.new) }
+    ensures no_memory { result ≡ 6
+        → Appends (O.written output.old) (O.written output.new) [] }
+{
+    match refusal_text(alloc, refusal) {
+        Ok(text) => end_with(3, text.as_str(), output),
+        Err(NoMemory) => 6,
     }
 }
 
@@ -37,7 +57,7 @@ fn answer_script<O: Sink>(alloc: Global, script: Script, output: &mut O) -> Ende
         × Appends (O.written output.old) (O.written output.new) (take n (report_of script)) }
     ensures valid { result.status ≢ 5 → result.status ≢ 6 → IsValidScript script.script }
     ensures ran { IsSome result.ran ↔ (result.status ≡ 0) ⊎ (result.status ≡ 7) }
-    ensures left { IfSome result.ran (λ ran. EndsWith script.script script.events
+    ensures left { IfSome result.ran (λ ran. EndsWith script.script script.plan
         ran.sources.items ran.store) }
 {
     match write_report(alloc, script, output) {
@@ -70,9 +90,7 @@ pub(crate) fn answer_to<O: Sink>(alloc: Global, bytes: Vec<u8>, output: &mut O) 
             drop(bytes);
             answer_script(alloc, script, output)
         }
-        Err(ScriptErr::Refused(refusal)) => {
-            Ended::with(end_with(3, refusal_text(refusal), output))
-        }
-        Err(ScriptErr::NoMemory) => Ended::with(6),
+        Err(ReadErr::Refused(refusal)) => Ended::with(answer_refusal(alloc, &refusal, output)),
+        Err(ReadErr::NoMemory) => Ended::with(6),
     }
 }

@@ -2,10 +2,13 @@
 #![tactic(auto)]
 
 mod answers;
+mod commands;
+mod made;
 mod runs;
 mod sources;
 mod top;
 mod writing;
 
+pub use commands::Command;
 pub use sources::sources_of;
 pub use top::{Ended, run};

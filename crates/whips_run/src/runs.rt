@@ -10,7 +10,7 @@ ghost use Rattle.whips_setup.specs.Workloads.{IsWorkload};
 ghost use Rattle.whips_facts.specs.Values.{IsValidScript};
 ghost use Rattle.whips_core.specs.Cores.{AreFresh};
 ghost use Rattle.whips_world.specs.Runs.{scheduled, EndsWith, TellsPart, TellsWhole};
-ghost use Rattle.whips_reports.specs.Reported.{listed, run_of};
+ghost use Rattle.whips_reports.specs.Reported.{run_of};
 ghost use Rattle.whips_reports.specs.Lines.{report};
 ghost use Rattle.whips_report.specs.Told.{output_at};
 ghost use Rattle.whips_run.specs.Answer.{run_of_script, report_of};
@@ -22,7 +22,7 @@ use whips_core::SourceQueues;
 use whips_io::Sink;
 use whips_plain::Plain;
 use whips_report::{Labels, LineSink, RecordErr, RecordSink};
-use whips_script::{Script, ScriptParts};
+use whips_script_reading::{Script, ScriptParts};
 use whips_setup::{Setup, Workload};
 use whips_source::Held;
 use whips_world::{Ran, Schedule, run};
@@ -40,19 +40,19 @@ fn run_sources<K: RecordSink>(
         → sources.items ≡ map_with_place (new_loaded_source setup) 0 work
         → TellsWhole K.told (record {
           script = scheduled setup work schedule.now.sessions;
-          events = schedule.now.events.now;
+          plan = schedule.now.plan.now;
           sink = sink.old;
         }) sink.new ran.is_full) }
     ensures ended { IfOk result (λ ran. (work : List (List Updates)) → IsWorkload setup work
         → sources.items ≡ map_with_place (new_loaded_source setup) 0 work
-        → EndsWith (scheduled setup work schedule.now.sessions) schedule.now.events.now
+        → EndsWith (scheduled setup work schedule.now.sessions) schedule.now.plan.now
         ran.sources.items ran.store) }
     ensures memory { IfErr result (λ r. r ≡ RecordErr.NoMemory → (work : List (List Updates))
         → IsWorkload setup work
         → sources.items ≡ map_with_place (new_loaded_source setup) 0 work
         → TellsPart K.told (record {
           script = scheduled setup work schedule.now.sessions;
-          events = schedule.now.events.now;
+          plan = schedule.now.plan.now;
           sink = sink.old;
         }) sink.new) }
     ensures failed { IfErr result (λ r. r ≡ RecordErr.Failed → (work : List (List Updates))
@@ -60,7 +60,7 @@ fn run_sources<K: RecordSink>(
         → sources.items ≡ map_with_place (new_loaded_source setup) 0 work
         → TellsPart K.failed (record {
           script = scheduled setup work schedule.now.sessions;
-          events = schedule.now.events.now;
+          plan = schedule.now.plan.now;
           sink = sink.old;
         }) sink.new) }
 {
@@ -69,7 +69,7 @@ fn run_sources<K: RecordSink>(
 }
 
 /// Runs a setup and a workload of it by a schedule, in plain memory. It hands back what the run left.
-fn run_work<K: RecordSink>(
+pub(crate) fn run_work<K: RecordSink>(
     alloc: Global,
     setup: Setup,
     work: Workload,
@@ -80,19 +80,19 @@ fn run_work<K: RecordSink>(
     requires work { IsWorkload setup work }
     ensures told { IfOk result (λ ran. TellsWhole K.told (record {
       script = scheduled setup work schedule.now.sessions;
-      events = schedule.now.events.now;
+      plan = schedule.now.plan.now;
       sink = sink.old;
     }) sink.new ran.is_full) }
     ensures ended { IfOk result (λ ran. EndsWith (scheduled setup work schedule.now.sessions)
-        schedule.now.events.now ran.sources.items ran.store) }
+        schedule.now.plan.now ran.sources.items ran.store) }
     ensures memory { IfErr result (λ r. r ≡ RecordErr.NoMemory → TellsPart K.told (record {
       script = scheduled setup work schedule.now.sessions;
-      events = schedule.now.events.now;
+      plan = schedule.now.plan.now;
       sink = sink.old;
     }) sink.new) }
     ensures failed { IfErr result (λ r. r ≡ RecordErr.Failed → TellsPart K.failed (record {
       script = scheduled setup work schedule.now.sessions;
-      events = schedule.now.events.now;
+      plan = schedule.now.plan.now;
       sink = sink.old;
     }) sink.new) }
 {
@@ -113,13 +113,13 @@ fn run_lines<O: Sink>(
     requires same { sink.old.setup.now ≡ setup }
     ensures written { (sink.new.output.ghost_name ≡ sink.old.output.ghost_name)
         × HasWritten (report (scheduled setup work schedule.now.sessions) sink.old.labels.now
-        (listed schedule.now.events.now))
+        schedule.now.plan.now)
         (run_of (scheduled setup work schedule.now.sessions)
-        (listed schedule.now.events.now)).is_full (fullness (λ ran. ran.is_full) result)
+        schedule.now.plan.now).is_full (fullness (λ ran. ran.is_full) result)
         (output_at O.written O.faults sink.old.output.now)
         (output_at O.written O.faults sink.new.output.now) }
     ensures ended { IfOk result (λ ran. EndsWith (scheduled setup work schedule.now.sessions)
-        schedule.now.events.now ran.sources.items ran.store) }
+        schedule.now.plan.now ran.sources.items ran.store) }
 {
     run_work(alloc, setup, work, schedule, sink)
 }
@@ -144,13 +144,13 @@ fn write_job<O: Sink>(
     requires work { IsWorkload job.setup job.work }
     requires same { setup.now ≡ job.setup }
     ensures written { HasWritten (report (scheduled job.setup job.work schedule.now.sessions) labels.now
-        (listed schedule.now.events.now))
+        schedule.now.plan.now)
         (run_of (scheduled job.setup job.work schedule.now.sessions)
-        (listed schedule.now.events.now)).is_full (fullness (λ ran. ran.is_full) result)
+        schedule.now.plan.now).is_full (fullness (λ ran. ran.is_full) result)
         (output_at O.written O.faults output.old) (output_at O.written O.faults output.new) }
     ensures ended { IfOk result (λ ran. EndsWith
         (scheduled job.setup job.work schedule.now.sessions)
-        schedule.now.events.now ran.sources.items ran.store) }
+        schedule.now.plan.now ran.sources.items ran.store) }
 {
     let Job {
         alloc,
@@ -170,7 +170,7 @@ pub(crate) fn write_report<O: Sink>(
     ensures written { HasWritten (report_of script) (run_of_script script).is_full
         (fullness (λ ran. ran.is_full) result)
         (output_at O.written O.faults output.old) (output_at O.written O.faults output.new) }
-    ensures ended { IfOk result (λ ran. EndsWith script.script script.events
+    ensures ended { IfOk result (λ ran. EndsWith script.script script.plan
         ran.sources.items ran.store) }
     ensures valid { OnOk result (IsValidScript script.script) }
 {
@@ -180,13 +180,14 @@ pub(crate) fn write_report<O: Sink>(
         work,
         views,
         sessions,
-        events,
+        texts,
+        plan,
     } = script.into_parts();
     let copy = setup.copy()?;
-    let labels = Labels::new(&sources, &views, &sessions, &[]);
+    let labels = Labels::new(&sources, &views, &sessions, texts.as_slice());
     let schedule = Schedule {
         sessions: sessions.len(),
-        events: &events,
+        plan: &plan,
     };
     let job = Job { alloc, setup, work };
     write_job(job, &schedule, &labels, &copy, output)

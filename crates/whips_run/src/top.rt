@@ -1,10 +1,14 @@
 // The top call.
-ghost use Rattle.std.specs.Prelude.{IsSome, IfSome, None, ◌↔◌, ◌≡◌, ◌≢◌, ◌<◌, ◌⊎◌, ℕ, List, [], length, map, take, string_bytes};
+ghost use Rattle.std.specs.Prelude.{IsSome, IfSome, None, Some, ◌↔◌, ◌≡◌, ◌≢◌, ◌<◌, ◌⊎◌, ℕ, List, [], length, map, take, string_bytes};
 ghost use Rattle.std.specs.Io.KnownBytes.{Appends, Consumes, IsAtEnd};
 ghost use Rattle.whips_io.specs.Counts.{HasRisen};
-ghost use Rattle.whips_run.specs.Outcome.{is_run, Outcome, IsOutcome, status_of, text_of, HasLeft, MeetsHeadline};
+ghost use Rattle.whips_run.specs.declared.commands.Command.TheVariants.{Run};
+ghost use Rattle.whips_run.specs.Commands.{command_of};
+ghost use Rattle.whips_run.specs.Outcome.{Outcome, IsOutcome, status_of, text_of, DoneMeetsHeadline, IsLeftBy};
 
 use crate::answers::answer_to;
+use crate::commands::{Command, command_of};
+use crate::made::answer_make;
 use crate::writing::end_with;
 use std::alloc::Global;
 use whips_io::{ReadErr, Sink, Source, read_all};
@@ -42,51 +46,32 @@ impl Ended {
     }
 }
 
-/// Does what the words say: with the one word `run`, reads a script from the input, runs it, and writes the report of
-/// the run, a record at a time: each committed version with its cut, and the views at the end.
-pub fn run<I: Source, O: Sink>(
-    alloc: Global,
-    words: &Vec<String>,
-    input: &mut I,
-    output: &mut O,
-) -> Ended
-    // The call ends as its words and its input say, and has written that text.
+/// Runs the script that the input is, and writes the report of the run.
+fn run_input<I: Source, O: Sink>(alloc: Global, input: &mut I, output: &mut O) -> Ended
     ensures ended { result.status ≢ 5 → result.status ≢ 6 → (o : Outcome)
-        × IsOutcome (map string_bytes words.now.items) (I.left input.old) (I.left input.new)
+        × IsOutcome (Some Run) (I.left input.old) (I.left input.new)
         (I.faults input.old) (I.faults input.new) o
         × (result.status ≡ status_of o) × Appends (O.written output.old) (O.written output.new)
         (text_of o) }
-
-    // The sink failed, and has taken a part of that text.
     ensures sink_failed { result.status ≡ 5 → (o : Outcome) × (n : ℕ)
-        × IsOutcome (map string_bytes words.now.items) (I.left input.old) (I.left input.new)
+        × IsOutcome (Some Run) (I.left input.old) (I.left input.new)
         (I.faults input.old) (I.faults input.new) o
         × (n < length (text_of o)) × Appends (O.written output.old) (O.written output.new)
         (take n (text_of o))
         × HasRisen (O.faults output.old) (O.faults output.new) }
-
-    // There was no memory. Nothing is written, or a first part of that text.
     ensures no_memory { result.status ≡ 6
         → Appends (O.written output.old) (O.written output.new) []
         ⊎ ((o : Outcome) × (n : ℕ)
-        × IsOutcome (map string_bytes words.now.items) (I.left input.old) (I.left input.new)
+        × IsOutcome (Some Run) (I.left input.old) (I.left input.new)
         (I.faults input.old) (I.faults input.new) o
         × Appends (O.written output.old) (O.written output.new) (take n (text_of o))) }
-
-    // With status 0 or 7 the whole input is a script, what is written is its report, and that meets the headline.
-    ensures headline { (result.status ≡ 0) ⊎ (result.status ≡ 7) → (bytes : List ℕ)
-        × Consumes (I.left input.old) (I.left input.new) bytes × IsAtEnd (I.left input.new)
-        × MeetsHeadline bytes (O.written output.old) (O.written output.new) }
-
-    // Exactly then it hands back what the run of that script left.
+    ensures headline { (result.status ≡ 0) ⊎ (result.status ≡ 7)
+        → DoneMeetsHeadline (Some Run) (I.left input.old) (I.left input.new)
+        (O.written output.old) (O.written output.new) }
     ensures ran { IsSome result.ran ↔ (result.status ≡ 0) ⊎ (result.status ≡ 7) }
-    ensures left { IfSome result.ran (λ ran. (bytes : List ℕ)
-        × Consumes (I.left input.old) (I.left input.new) bytes
-        × HasLeft bytes ran.sources.items ran.store) }
+    ensures left { IfSome result.ran (λ ran. IsLeftBy (Some Run) (I.left input.old)
+        (I.left input.new) ran.sources.items ran.store) }
 {
-    if !is_run(words) {
-        return Ended::with(end_with(2, "usage: whips run, check or make START SIZE\n", output));
-    }
     match read_all(alloc, input, LIMIT) {
         Ok(bytes) => answer_to(alloc, bytes, output),
         Err(ReadErr::ReadFault) => Ended::with(end_with(4, "read fault\n", output)),
@@ -95,13 +80,54 @@ pub fn run<I: Source, O: Sink>(
     }
 }
 
-/// Whether the words are the command `run` alone.
-fn is_run(words: &[String]) -> bool
-    ensures { result ≡ is_run (map string_bytes words.now) }
+/// Does what the words say. With the one word `run` it reads a script from the input, runs it, and writes the report of
+/// the run, a record at a time: each committed version with its cut, all that sessions read, and the views at the end.
+/// With `make`, a start number and a size it reads nothing, and writes the summary of the run of the script that these
+/// numbers make.
+pub fn run<I: Source, O: Sink>(
+    alloc: Global,
+    words: &Vec<String>,
+    input: &mut I,
+    output: &mut O,
+) -> Ended
+    // The call ends as its words and its input say, and has written that text.
+    ensures ended { result.status ≢ 5 → result.status ≢ 6 → (o : Outcome)
+        × IsOutcome (command_of (map string_bytes words.now.items)) (I.left input.old)
+        (I.left input.new) (I.faults input.old) (I.faults input.new) o
+        × (result.status ≡ status_of o) × Appends (O.written output.old) (O.written output.new)
+        (text_of o) }
+
+    // The sink failed, and has taken a part of that text.
+    ensures sink_failed { result.status ≡ 5 → (o : Outcome) × (n : ℕ)
+        × IsOutcome (command_of (map string_bytes words.now.items)) (I.left input.old)
+        (I.left input.new) (I.faults input.old) (I.faults input.new) o
+        × (n < length (text_of o)) × Appends (O.written output.old) (O.written output.new)
+        (take n (text_of o))
+        × HasRisen (O.faults output.old) (O.faults output.new) }
+
+    // There was no memory. Nothing is written, or a first part of that text.
+    ensures no_memory { result.status ≡ 6
+        → Appends (O.written output.old) (O.written output.new) []
+        ⊎ ((o : Outcome) × (n : ℕ)
+        × IsOutcome (command_of (map string_bytes words.now.items)) (I.left input.old)
+        (I.left input.new) (I.faults input.old) (I.faults input.new) o
+        × Appends (O.written output.old) (O.written output.new) (take n (text_of o))) }
+
+    // With status 0 or 7 a run is done: of the whole input, which is a script, and what is written is its report, which
+    // meets the headline; or of a made script, and what is written is the summary of a report that meets it.
+    ensures headline { (result.status ≡ 0) ⊎ (result.status ≡ 7)
+        → DoneMeetsHeadline (command_of (map string_bytes words.now.items)) (I.left input.old)
+        (I.left input.new) (O.written output.old) (O.written output.new) }
+
+    // Exactly then it hands back what the run of that script left.
+    ensures ran { IsSome result.ran ↔ (result.status ≡ 0) ⊎ (result.status ≡ 7) }
+    ensures left { IfSome result.ran (λ ran. IsLeftBy
+        (command_of (map string_bytes words.now.items)) (I.left input.old) (I.left input.new)
+        ran.sources.items ran.store) }
 {
-    match words {
-        [] => false,
-        [word] => word.as_str() == "run",
-        [_, _, ..] => false,
+    match command_of(words) {
+        Some(Command::Run) => run_input(alloc, input, output),
+        Some(Command::Make { start, size }) => answer_make(alloc, start, size, output),
+        None => Ended::with(end_with(2, "usage: whips run, check or make START SIZE\n", output)),
     }
 }

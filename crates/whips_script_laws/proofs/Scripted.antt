@@ -16,8 +16,9 @@ use Rattle.whips_reading.specs.Places.{Place, in_member}
 use Rattle.whips_reading.specs.Reading.{Read, ◌>>=◌, ◌>>◌, check, object}
 use Rattle.whips_update_reading.specs.Sources.{Sources, sources_in}
 use Rattle.whips_view_reading.specs.Views.{Basis, ViewForm, view_in}
+use Rattle.whips_plan_reading.specs.Plans.{plan_in}
 use Rattle.whips_script_reading.specs.Views.{Views, no_views, tables_of, schemas_of, view_over, with_view, view_added, views_in}
-use Rattle.whips_script_reading.specs.Script.{Parts, basis_of, versions_in, sources_of, views_of, plan_built, setup_with, setup_in, work_is_valid, script_with, script_of_parts, parts_in}
+use Rattle.whips_script_reading.specs.Script.{Parts, basis_of, versions_in, sources_of, views_of, setup_with, setup_in, work_is_valid, script_with, script_of_parts, parts_in}
 use Rattle.whips_script_laws.specs.Laws.{IsViewOf, AreViewsOf}
 use Rattle.whips_script_laws.proofs.Parts.{bound, followed, tested, list_read, member_read}
 use Rattle.whips_script_laws.proofs.Appended.{one_longer}
@@ -77,7 +78,7 @@ module _ (texts : List Text) (place : Place) where
       let v = bound (versions_in place d) _ parts form.2 in
       let s = bound (sources_of texts place d) _ parts v.2 in
       let w = bound (views_of texts s.0 place d) _ parts s.2 in
-      let p = bound (plan_built s.0.names w.0.names place d) _ parts w.2 in
+      let p = bound (plan_in s.0.names w.0.names place d) _ parts w.2 in
       let sources = member_read member.Sources (sources_in texts) place d s.0 s.1 in
       let views = member_read member.Views (views_in (basis_of texts s.0)) place d w.0 w.1 in
       let are = views_read texts s.0 (in_member place member.Views) views.0 w.0 views.1 in

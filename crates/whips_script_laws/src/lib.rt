@@ -1,7 +1,11 @@
 //! What the reader of scripts accepts, other parts accept: no view, no setup and no workload of a
-//! script that was read is refused when it is made.
+//! script that was read is refused when it is made. And an event is read from the text that is printed for it.
 #![tactic(auto)]
 
+ghost use Rattle.whips_flow.specs.declared.event.Event.{Event};
+ghost use Rattle.whips_facts.specs.Scripts.{Labels};
+ghost use Rattle.whips_reading.specs.Json.{Text};
+ghost use Rattle.whips_script_laws.specs.Printed.{IsReadAsPrinted};
 ghost use Rattle.whips_script_laws.specs.Laws.{ViewsAreMade, SourcesAreSound, WorkloadsAreMade, SetupsAreMade};
 ghost use Rattle.whips_script_laws.specs.Scripts.{ViewsAreAccepted, ScriptsAreAccepted};
 
@@ -33,4 +37,10 @@ pub fn views_are_accepted()
 /// Law: a script whose parts were read is never refused when its setup and its workload are made.
 pub fn scripts_are_accepted()
     ensures { ScriptsAreAccepted }
+{}
+
+/// Law: the text that an event is read from is the one that is printed for it.
+#[tactic(auto, using(crate::proofs::Printed::printed))]
+pub fn events_are_read_as_printed()
+    ensures { (l : Labels) (t : Text) (e : Event) → IsReadAsPrinted l t e }
 {}

@@ -6,20 +6,20 @@ ghost use Rattle.whips_setup.specs.Refusals.{IsSetup};
 ghost use Rattle.whips_setup.specs.Workloads.{IsWorkload};
 ghost use Rattle.whips_reading.specs.Places.{path_steps};
 ghost use Rattle.whips_reading.specs.Reading.{Answers};
-ghost use Rattle.whips_script_reading.specs.Script.{labels_of, named_script, versions_in, sources_of, views_of, schedule_built, plan_built, events_of, parts_in, setup_in, work_is_valid, script_of_parts, script_of};
+ghost use Rattle.whips_script_reading.specs.Script.{labels_of, named_script, versions_in, sources_of, views_of, parts_in, setup_in, work_is_valid, script_of_parts, script_of};
 
 use crate::views::{Ground, Views, schemas_of, tables_of};
 use serde_json::Value;
 use std::alloc::Global;
 use std::marker::Model;
-use whips_plan_reading::{Names, PlanForm, is_picked_schedule, read_schedule, read_sessions};
+use whips_plan_reading::{PlanForm, read_plan};
 use whips_reading::{
     Code, Member, ObjectForm, Path, ReadErr, Text, in_member, object, optional, read_document,
     read_number, refuse, required,
 };
 use whips_rel::Trans;
 use whips_relation_reading::RelationForm;
-use whips_setup::{BatchErr, Events, Plan, Setup, SetupErr, Workload};
+use whips_setup::{BatchErr, Plan, Setup, SetupErr, Workload};
 use whips_texts::{Dict, collect_texts};
 use whips_update_reading::{Sources, read_sources};
 use whips_view_reading::Basis;
@@ -37,7 +37,7 @@ pub struct Script {
     sessions: Vec<Text>,
     texts: Dict,
     relations: Vec<RelationForm>,
-    events: Events,
+    plan: Plan,
 }
 
 impl Model for Script {
@@ -47,7 +47,7 @@ impl Model for Script {
     ghost Value = { NamedScript };
 
     ghost view = { λ s. named_script s.setup s.work
-        (labels_of s.sources.items s.views.items s.sessions.items s.texts) s.relations.items s.events };
+        (labels_of s.sources.items s.views.items s.sessions.items s.texts) s.relations.items s.plan };
 
     ghost invariant = { λ s. IsWorkload s.setup s.work };
 }
@@ -74,12 +74,12 @@ impl Script {
         &self.sessions
     }
 
-    /// The setup, the transactions and the events, with the names of the sources, the views and the sessions, and
+    /// The setup, the transactions and the plan, with the names of the sources, the views and the sessions, and
     /// the texts.
     pub fn into_parts(self) -> ScriptParts
         ensures parts { self ≡ named_script result.setup result.work
             (labels_of result.sources.items result.views.items result.sessions.items result.texts)
-            self.relations result.events }
+            self.relations result.plan }
         ensures setup { IsSetup result.setup }
         ensures work { IsWorkload result.setup result.work }
     {
@@ -91,7 +91,7 @@ impl Script {
             views: self.views,
             sessions: self.sessions,
             texts: self.texts,
-            events: self.events,
+            plan: self.plan,
         }
     }
 }
@@ -111,8 +111,8 @@ pub struct ScriptParts {
     pub sessions: Vec<Text>,
     /// The texts, by code.
     pub texts: Dict,
-    /// The events of the schedule, in their order.
-    pub events: Events,
+    /// Which events a run takes before it is drained.
+    pub plan: Plan,
 }
 
 /// The parts of a document.
@@ -189,51 +189,6 @@ fn read_all_views(
     };
     let ground = Ground::of(alloc, &basis)?;
     ground.read_views(&in_member(&*path, Member::Views), list)
-}
-
-/// Tries that the schedule isn't of the form that isn't built.
-fn check_schedule(alloc: Global, path: &Path<'_>, document: &Value) -> Result<(), ReadErr>
-    ensures { Answers (λ t. t) result
-        (schedule_built (path_steps path.now) (view document.now)) }
-{
-    match optional(document, Member::Schedule) {
-        Some(schedule) if is_picked_schedule(schedule) => Err(refuse(
-            alloc,
-            &in_member(path, Member::Schedule),
-            Code::Unbuilt,
-        )),
-        _ => Ok(()),
-    }
-}
-
-/// The sessions and the schedule.
-fn read_plan(
-    alloc: Global,
-    sources: &[Text],
-    views: &[Text],
-    path: &Path<'_>,
-    document: &Value,
-) -> Result<PlanForm, ReadErr>
-    requires sources { length sources.now ≤ 8 }
-    requires views { length views.now ≤ 8 }
-    ensures { Answers (λ p. p) result
-        (plan_built sources.now views.now (path_steps path.now) (view document.now)) }
-{
-    let sessions = read_sessions(alloc, path, document)?;
-    check_schedule(alloc, path, document)?;
-    let names = Names::of(sources, views, &sessions);
-    let plan = read_schedule(alloc, &names, path, document)?;
-    Ok(PlanForm { sessions, plan })
-}
-
-/// The events that the schedule lists.
-fn events_of(alloc: Global, plan: Plan) -> Events
-    ensures { result ≡ events_of plan }
-{
-    match plan {
-        Plan::Listed(events) => events,
-        Plan::Picked { .. } => Events::of(Vec::new(alloc)),
-    }
 }
 
 /// The parts of a document.
@@ -344,7 +299,7 @@ fn make_script(alloc: Global, texts: Dict, path: &Path<'_>, parts: Parts) -> Res
         sessions,
         texts,
         relations,
-        events: events_of(alloc, plan),
+        plan,
     })
 }
 
@@ -364,4 +319,43 @@ pub fn read_script(alloc: Global, bytes: &[u8]) -> Result<Script, ReadErr>
     let path = document_path();
     let parts = read_parts(alloc, &texts, &path, &document)?;
     make_script(alloc, texts, &path, parts)
+}
+
+/// What a script is made of, lent.
+impl Script {
+    /// The texts, by code.
+    pub fn texts(&self) -> &Dict
+        ensures { result.now ≡ self.now.labels.texts }
+    {
+        &self.texts
+    }
+
+    /// The relations with the names of their columns.
+    pub fn relations(&self) -> &[RelationForm]
+        ensures { result.now ≡ self.now.relations }
+    {
+        &self.relations
+    }
+
+    /// The sources with their relations, and the views over them with their slots.
+    pub fn setup(&self) -> &Setup
+        ensures { result.now ≡ self.now.script.setup }
+    {
+        &self.setup
+    }
+
+    /// The transactions of each source.
+    pub fn work(&self) -> &Workload
+        ensures work { result.now ≡ self.now.script.work }
+        ensures valid { IsWorkload self.now.script.setup self.now.script.work }
+    {
+        &self.work
+    }
+
+    /// Which events are done before the run is drained.
+    pub fn plan(&self) -> &Plan
+        ensures { result.now ≡ self.now.plan }
+    {
+        &self.plan
+    }
 }

@@ -1,8 +1,12 @@
-//! Tests alone: input and output, views and scripts that are read or refused, and whole runs on texts in memory.
+//! Tests alone: input and output, scripts that are read or refused, and whole runs on texts in memory.
 #![tactic(auto)]
 
 #[cfg(test)]
 mod io;
+#[cfg(test)]
+mod made;
+#[cfg(test)]
+mod refusals;
 #[cfg(test)]
 mod report;
 #[cfg(test)]
@@ -11,5 +15,3 @@ mod run;
 mod schedules;
 #[cfg(test)]
 mod script;
-#[cfg(test)]
-mod view_forms;

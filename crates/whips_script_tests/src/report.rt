@@ -4,8 +4,8 @@ ghost use Rattle.whips_model.specs.declared.Kind.TheVariants.{Number, Text as Te
 
 use std::alloc::Global;
 use whips_fixtures::{Parts, at, numbers, schema, view_over, words};
-use whips_forms::Text;
 use whips_io::MemSink;
+use whips_reading::Text;
 use whips_rel::{InsertErr, Kind, NoMemory, Relation, Schema, Tuple};
 use whips_report::{Labels, LineSink, Rec, RecordErr, RecordSink, cut_counts, push_lines};
 use whips_row_buf::RowBuf;
@@ -16,10 +16,7 @@ use whips_view::ViewDef;
 fn names(alloc: Global, items: &[&str]) -> Result<Vec<Text>, NoMemory> {
     let mut names = Vec::new(alloc);
     for item in items {
-        match Text::of(alloc, item) {
-            Ok(name) => names.push(name)?,
-            Err(_) => return Err(NoMemory),
-        }
+        names.push(Text::of(alloc, item)?)?;
     }
     Ok(names)
 }

@@ -34,14 +34,14 @@ pub(crate) struct Failing {
 /// Nothing fails.
 pub(crate) const NOTHING: Failing = Failing { read: 0, write: 0 };
 
-/// The status in which the word ends on the text, and the sink with what was written.
-fn run_on(
+/// The status in which the words end on the text, and the sink with what was written.
+pub(crate) fn run_on(
     alloc: Global,
-    word: &str,
+    words: &[&str],
     text: &[u8],
     failing: Failing,
 ) -> Result<(u8, MemSink), NoMemory> {
-    let words = texts(alloc, &[word])?;
+    let words = texts(alloc, words)?;
     let mut input = input(alloc, text, failing.read)?;
     let mut output = output(alloc, failing.write)?;
     let ended = run(alloc, &words, &mut input, &mut output);
@@ -56,7 +56,7 @@ pub(crate) fn ends_as(
     failing: Failing,
     wanted: (u8, &[u8]),
 ) -> Result<bool, NoMemory> {
-    let (status, output) = run_on(alloc, word, text, failing)?;
+    let (status, output) = run_on(alloc, &[word], text, failing)?;
     Ok((status == wanted.0) & (output.written() == wanted.1))
 }
 
@@ -153,23 +153,6 @@ fn the_outside_fails(rt: HostRuntime) {
     assert!(rt; matches!(is_too_long(rt.alloc()), Ok(true)));
 }
 
-#[test]
-fn bad_input_is_refused(rt: HostRuntime) {
-    let syntax = b"refused Syntax document\n".as_slice();
-    let unbuilt = b"refused Unbuilt document\n".as_slice();
-    let cases: [(&[u8], &[u8]); 5] = [
-        (b"", syntax),
-        (br#"{"sources":[{"name":"A"#, syntax),
-        (b"\"\xff\"", syntax),
-        (b"{}", unbuilt),
-        (br#"{"sources":[],"views":[]}"#, unbuilt),
-    ];
-    for (text, wanted) in cases {
-        let ended = ends_as(rt.alloc(), "run", text, NOTHING, (3, wanted));
-        assert!(rt; matches!(ended, Ok(true)), "at {text:?}");
-    }
-}
-
 /// The script of one row with other rows and updates.
 fn script_of(alloc: Global, rows: &str, updates: &str) -> Result<String, AllocError> {
     format!(in alloc;
@@ -180,7 +163,7 @@ fn script_of(alloc: Global, rows: &str, updates: &str) -> Result<String, AllocEr
 /// The status in which a run on the script of one row with these rows and updates ends.
 fn status_of(alloc: Global, rows: &str, updates: &str) -> Result<u8, NoMemory> {
     let text = script_of(alloc, rows, updates)?;
-    let (status, _output) = run_on(alloc, "run", text.as_bytes(), NOTHING)?;
+    let (status, _output) = run_on(alloc, &["run"], text.as_bytes(), NOTHING)?;
     Ok(status)
 }
 

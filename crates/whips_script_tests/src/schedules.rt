@@ -1,4 +1,5 @@
-//! Whole runs on scripts with sessions, schedules, transactions of several updates and more versions, worked by hand.
+//! Whole runs on scripts with texts, sessions, schedules, transactions of several updates and more versions, worked by
+//! hand.
 use crate::run::{NOTHING, ends_as};
 
 /// A script, and how its run ends.
@@ -443,6 +444,67 @@ view V rows 2
 row [2,7,5]
 row [3,7,5]
 "#,
+    },
+    Case {
+        what: "a shop with texts in its keys, rows and joins",
+        text: br#"{"sources":[
+            {"name":"sales","relations":[
+                {"name":"customers","columns":[["id","number"],["name","text"]],"key":["id"],"rows":[[1,"Ada"],[2,"Ben"]]},
+                {"name":"orders","columns":[["no","number"],["cust","number"],["item","text"],["qty","number"]],"key":["no"],
+                    "rows":[[10,1,"tea",3],[11,2,"jam",1]]}],
+                "updates":[["insert","orders",[12,1,"jam",6]],["delete","orders",[11]]]},
+            {"name":"stock","relations":[
+                {"name":"items","columns":[["item","text"],["bin","number"]],"key":["item"],"rows":[["jam",4],["tea",2]]},
+                {"name":"prices","columns":[["item","text"],["cents","number"]],"key":["item"],"rows":[["jam",350],["tea",420]]}],
+                "updates":[["delete","items",["tea"]],["insert","items",["tea",9]]]}],
+            "views":[
+                {"name":"ship","relations":["orders","items"],"equal":[["orders.item","items.item"]],
+                    "out":["orders.no","items.item","items.bin","orders.qty"]},
+                {"name":"bill","relations":["customers","orders","prices"],
+                    "equal":[["customers.id","orders.cust"],["orders.item","prices.item"]],
+                    "out":["customers.id","customers.name","orders.no","prices.item","prices.cents","orders.qty"]},
+                {"name":"bulk","relations":["orders"],"where":[["orders.qty",">=",3]],
+                    "out":["orders.no","orders.item","orders.qty"]}]}"#,
+        status: 0,
+        report: br#"version 0 cut sales=0 stock=0 rows ship=2 bill=2 bulk=1
+version 1 cut sales=1 stock=0 rows ship=3 bill=3 bulk=2
+version 2 cut sales=2 stock=0 rows ship=2 bill=2 bulk=2
+version 3 cut sales=2 stock=1 rows ship=1 bill=2 bulk=2
+version 4 cut sales=2 stock=2 rows ship=2 bill=2 bulk=2
+final sales=2 stock=2
+view ship rows 2
+row [10,"tea",9,3]
+row [12,"jam",4,6]
+view bill rows 2
+row [1,"Ada",10,"tea",420,3]
+row [1,"Ada",12,"jam",350,6]
+view bulk rows 2
+row [10,"tea",3]
+row [12,"jam",6]
+"#,
+    },
+    Case {
+        what: "texts that are printed as JSON strings, in the order of their bytes",
+        text: br#"{"sources":[
+            {"name":"A","relations":[{"name":"R","columns":[["b","text"],["n","number"]],"key":["b"],
+                "rows":[["tea",1],["\u00e9",2],["say \"hi\"\n",3]]}],
+                "updates":[["insert","R",["Zoe",4]],["delete","R",["\u00e9"]]]}],
+            "views":[{"name":"V","relations":["R"],"where":[["R.b","!=","tea"]],"out":["R.n","R.b"],"slots":8}],
+            "sessions":["s"],
+            "schedule":{"events":["commit A","open s","scan s V","fetch s 8"]}}"#,
+        status: 0,
+        report: b"version 0 cut A=0 rows V=2
+open s version 0 phase 0
+read s V version 0 phase 0 rows 2
+row [3,\"say \\\"hi\\\"\\n\"]
+row [2,\"\xc3\xa9\"]
+version 1 cut A=1 rows V=3
+version 2 cut A=2 rows V=2
+final A=2
+view V rows 2
+row [4,\"Zoe\"]
+row [3,\"say \\\"hi\\\"\\n\"]
+",
     },
 ];
 

@@ -15,7 +15,9 @@ use Rattle.whips_runs.specs.World.{World, drained_world, finished_world, with_fi
 use Rattle.whips_runs.specs.Picks.{after_picked_plan}
 use Rattle.whips_facts.specs.Scripts.{Script, SlottedView, slotted_views, value_at, view_at, no_view}
 use Rattle.whips_facts.specs.ScriptFacts.{facts_of}
-use Rattle.whips_reports.specs.Reported.{Reported, reported, rows_of, Plan, listed, picked, run_of}
+use Rattle.whips_setup.specs.declared.plan.Plan.{Plan}
+use Rattle.whips_setup.specs.declared.plan.Plan.TheVariants.{Listed, Picked}
+use Rattle.whips_reports.specs.Reported.{Reported, reported, rows_of, run_of}
 use Rattle.whips_reports.specs.Summary.{is_read, is_more, is_expired, record_count}
 use Rattle.whips_tally.specs.Tallies.{Tally, no_tally, counted_one, tally_after, tally_of, is_version, RunsAreCounted}
 use Rattle.whips_tally.proofs.Records.{after, HasCounted, kinds_counted, end_counted, by_place}
@@ -62,5 +64,5 @@ module _ (s : Script) (d : World) where
   final_counted off = by_end d.is_full refl off
 
 pub ended_counted : RunsAreCounted
-ended_counted s (listed es) off = let z = after_listed_plan (facts_of s) 1 es (start_world (facts_of s)) in final_counted s (drained_world (work (facts_of s) z.pipeline) (facts_of s) z) off
-ended_counted s (picked start steps) off = let z = after_picked_plan steps (facts_of s) start (start_world (facts_of s)) in final_counted s (drained_world (work (facts_of s) z.pipeline) (facts_of s) z) off
+ended_counted s (Listed es) off = let z = after_listed_plan (facts_of s) 1 es (start_world (facts_of s)) in final_counted s (drained_world (work (facts_of s) z.pipeline) (facts_of s) z) off
+ended_counted s (Picked start steps) off = let z = after_picked_plan steps (facts_of s) start (start_world (facts_of s)) in final_counted s (drained_world (work (facts_of s) z.pipeline) (facts_of s) z) off

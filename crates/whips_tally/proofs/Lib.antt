@@ -1,2 +1,4 @@
 mod Records
 mod Ended
+pub mod Summaries
+mod Texts

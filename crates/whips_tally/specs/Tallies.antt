@@ -4,8 +4,9 @@ use Rattle.whips_runs.specs.Records.{RunRecord, version, skip, opened, more, rea
 use Rattle.whips_runs.specs.World.{World}
 use Rattle.whips_facts.specs.Scripts.{Script}
 use Rattle.whips_facts.specs.ScriptFacts.{facts_of}
-use Rattle.whips_reports.specs.Reported.{Reported, reported, Plan, run_of}
-use Rattle.whips_reports.specs.Summary.{is_read, is_more, is_expired, record_count}
+use Rattle.whips_setup.specs.declared.plan.Plan.{Plan}
+use Rattle.whips_reports.specs.Reported.{Reported, reported, run_of}
+use Rattle.whips_reports.specs.Summary.{is_read, is_more, is_expired, record_count, Counts, counts_of}
 
 -- how many versions, and how many fetches of each end there were, and the rows of each view at the end
 pub record Tally : Type 0 where
@@ -53,3 +54,19 @@ tally_of s w = record {
 -- a sink that was told the report of a run that isn't full has counted its records and the rows at its end
 abbrev pub RunsAreCounted : Type 0
 RunsAreCounted = (s : Script) (plan : Plan) → (run_of s plan).is_full ≡ false → tally_after no_tally (reported s (run_of s plan)) ≡ tally_of s (run_of s plan)
+
+-- what a summary tells, by the counts of a sink and the transactions of each source; version 0 isn't told
+abbrev pub counts_from : Tally → List ℕ → Counts
+counts_from t transactions = record {
+  versions = t.versions - 1;
+  reads = t.reads;
+  more = t.more;
+  expired = t.expired;
+  rows = t.rows;
+  transactions = transactions;
+}
+
+-- the summary of a run that isn't full is told by what a sink counted of its report
+abbrev pub SummariesAreCounted : Type 0
+SummariesAreCounted = (s : Script) (plan : Plan) → (run_of s plan).is_full ≡ false
+    → counts_from (tally_after no_tally (reported s (run_of s plan))) (map length s.work) ≡ counts_of s (run_of s plan)

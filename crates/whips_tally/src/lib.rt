@@ -1,8 +1,9 @@
 //! A sink that counts the records of a run.
 #![tactic(auto)]
 
-ghost use Rattle.whips_tally.specs.Tallies.{RunsAreCounted};
+ghost use Rattle.whips_tally.specs.Tallies.{RunsAreCounted, SummariesAreCounted};
 
+mod summary;
 mod tally;
 
 pub use tally::Tally;
@@ -11,4 +12,9 @@ pub use tally::Tally;
 /// view on the final sources.
 pub fn runs_are_counted()
     ensures { RunsAreCounted }
+{}
+
+/// Law: so the counts of such a sink are those of the run's summary.
+pub fn summaries_are_counted()
+    ensures { SummariesAreCounted }
 {}

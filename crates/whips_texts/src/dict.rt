@@ -79,6 +79,13 @@ impl Dict {
         self.texts.len()
     }
 
+    /// The texts as a slice.
+    pub fn as_slice(&self) -> &[Text]
+        ensures { result.now ≡ self.now }
+    {
+        &self.texts
+    }
+
     /// The code of the text: the number of texts before it.
     pub fn rank(&self, text: &str) -> u64
         ensures rank { result ≡ rank self.now text.now }

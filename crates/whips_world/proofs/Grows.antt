@@ -1,6 +1,6 @@
 -- How the report of a run grows: each event adds lines behind those that are there, and those stay as they were.
 --
--- `event_grows`, `skip_grows`: an event that is allowed, and one that isn't, leave the report of before as a first part; `finished_grows`, `rest_grows`: so does all that is left of the run, without events of the schedule and with these.
+-- `event_grows`, `skip_grows`: an event that is allowed, and one that isn't, leave the report of before as a first part; `finished_grows`, `rest_grows`, `turns_grow`: so does all that is left of the run, without events of the plan, with listed ones, and with turns of a picker. `run_grows`: so does the run as a whole.
 --
 -- The idea: only the rows of a read depend on the cuts, and it is of a version that was printed before it. So cuts of later versions change no line.
 --
@@ -16,16 +16,19 @@ use Rattle.whips_flow.specs.declared.event.Event.{Event}
 use Rattle.whips_flow.specs.declared.event.Event.TheVariants.{Commit, Answer, Integrate, Manage, Rel, Act, Begin, Change, Publish, SessionOpen, SessionScan, SessionFetch, SessionClose}
 use Rattle.whips_runs.specs.Sessions.{Scan, scan_of, visited_scan}
 use Rattle.whips_runs.specs.Records.{RunRecord, version, skip, opened, more, read, expired, full, final, final_rows, fetch_record, version_record}
-use Rattle.whips_runs.specs.World.{World, phase_of, is_allowed, after_event, after_turn, after_listed_plan, after_pipeline_event, after_fetch, with_record, drained_world, finished_world, with_final_records}
+use Rattle.whips_runs.specs.World.{World, phase_of, is_allowed, after_event, after_turn, after_listed_plan, after_pipeline_event, after_fetch, with_record, start_world, drained_world, finished_world, with_final_records}
+use Rattle.whips_runs.specs.Picks.{after_picked_plan}
+use Rattle.whips_setup.specs.declared.plan.Plan.{Plan}
+use Rattle.whips_setup.specs.declared.plan.Plan.TheVariants.{Listed, Picked}
 use Rattle.whips_facts.specs.Scripts.{Script, value_at, view_at}
 use Rattle.whips_facts.specs.ScriptFacts.{facts_of}
-use Rattle.whips_reports.specs.Reported.{rows_of, reported}
+use Rattle.whips_reports.specs.Reported.{rows_of, reported, run_of}
 use Rattle.whips_lists.proofs.ByPlace.{get_there}
 use Rattle.whips_headline_laws.specs.Headline.{printed_cuts}
 use Rattle.whips_headline_laws.proofs.Counts.{same_versions}
-use Rattle.whips_headline_laws.proofs.Told.{EachFrom, IsLine, Told, event_told, skip_told}
+use Rattle.whips_headline_laws.proofs.Told.{EachFrom, IsLine, Told, start_told, event_told, skip_told}
 use Rattle.whips_headline_laws.proofs.Meets.{line_of, printed_append, index_front}
-use Rattle.whips_headline_laws.proofs.Along.{drained_keeps}
+use Rattle.whips_headline_laws.proofs.Along.{drained_keeps, picked_keeps}
 use Rattle.whips_world.specs.Runs.{IsFirstPart}
 use Rattle.whips_world.proofs.Drains.{turn_full, turn_done, turn_skipped}
 
@@ -144,11 +147,15 @@ module _ (s : Script) where
 
   -- ---- what is left of the run
 
+  -- after more events the run has told right what it told, and more
+  abbrev HasGrown : World → World → Type 0
+  HasGrown w z = Told (facts_of s) z × IsFirstPart (reported s w) (reported s z)
+
+  grown_more : (w z : World) (e : Event) → z.is_full ≡ false → is_allowed (facts_of s) z e ≡ true → HasGrown w z → HasGrown w (after_event (facts_of s) e z)
+  grown_more w z e off allowed k = (event_told (facts_of s) z e off allowed k.0, first_of_first (reported s w) (reported s z) (reported s (after_event (facts_of s) e z)) k.1 (event_grows z e k.0))
+
   drained_grows : (n : ℕ) (w : World) → Told (facts_of s) w → IsFirstPart (reported s w) (reported s (drained_world n (facts_of s) w))
-  drained_grows n w h =
-      (drained_keeps (facts_of s) (λ z. Told (facts_of s) z × IsFirstPart (reported s w) (reported s z))
-      (λ z e off allowed k. (event_told (facts_of s) z e off allowed k.0, first_of_first (reported s w) (reported s z) (reported s (after_event (facts_of s) e z)) k.1 (event_grows z e k.0)))
-      n w (h, first_itself (reported s w))).1
+  drained_grows n w h = (drained_keeps (facts_of s) (HasGrown w) (grown_more w) n w (h, first_itself (reported s w))).1
 
   drained_told : (n : ℕ) (w : World) → Told (facts_of s) w → Told (facts_of s) (drained_world n (facts_of s) w)
   drained_told n w h = drained_keeps (facts_of s) (Told (facts_of s)) (event_told (facts_of s)) n w h
@@ -173,10 +180,6 @@ module _ (s : Script) where
 
   -- ---- the schedule
 
-  -- after more events the run has told right what it told, and more
-  abbrev HasGrown : World → World → Type 0
-  HasGrown w z = Told (facts_of s) z × IsFirstPart (reported s w) (reported s z)
-
   turn_grows : (place : ℕ) (e : Event) (w : World) → Told (facts_of s) w → HasGrown w (after_turn (facts_of s) place e w)
   turn_grows place e w h = by w.is_full refl (is_allowed (facts_of s) w e) refl
     where
@@ -200,3 +203,19 @@ module _ (s : Script) where
       let z = after_listed_plan (facts_of s) place es w in
       let plan = plan_grows place es w h in
       first_of_first (reported s w) (reported s z) (reported s (finished_world (facts_of s) z)) plan.1 (finished_grows z plan.0)
+
+  -- turns of a picker
+  picks_grow : (n state : ℕ) (w : World) → Told (facts_of s) w → HasGrown w (after_picked_plan n (facts_of s) state w)
+  picks_grow n state w h = picked_keeps (facts_of s) (HasGrown w) (grown_more w) n state w (h, first_itself (reported s w))
+
+  -- all that is left of the run, with so many turns of a picker
+  pub turns_grow : (n state : ℕ) (w : World) → Told (facts_of s) w → IsFirstPart (reported s w) (reported s (finished_world (facts_of s) (after_picked_plan n (facts_of s) state w)))
+  turns_grow n state w h =
+      let z = after_picked_plan n (facts_of s) state w in
+      let turns = picks_grow n state w h in
+      first_of_first (reported s w) (reported s z) (reported s (finished_world (facts_of s) z)) turns.1 (finished_grows z turns.0)
+
+  -- the run by a plan
+  pub run_grows : (plan : Plan) → IsFirstPart (reported s (start_world (facts_of s))) (reported s (run_of s plan))
+  run_grows (Listed es) = rest_grows 1 es (start_world (facts_of s)) (start_told (facts_of s))
+  run_grows (Picked start steps) = turns_grow steps start (start_world (facts_of s)) (start_told (facts_of s))

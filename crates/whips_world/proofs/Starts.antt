@@ -5,7 +5,7 @@ use Rattle.whips_lists.specs.Lists.{map_with_place}
 use Rattle.whips_states.specs.States.{Updates}
 use Rattle.whips_setup.specs.Setups.{SetupData}
 use Rattle.whips_setup.specs.Refusals.{IsSetup}
-use Rattle.whips_flow.specs.declared.event.Event.{Event}
+use Rattle.whips_setup.specs.declared.plan.Plan.{Plan}
 use Rattle.whips_facts.specs.Scripts.{Script}
 use Rattle.whips_store.specs.Stores.{StoreState}
 use Rattle.whips_store.specs.First.{store_at_first}
@@ -31,10 +31,10 @@ module _ (setup : SetupData) (sources : List LoadedSource) (store : StoreState) 
   pub script_is : (sessions : ℕ) (work : List (List Updates)) → sources ≡ map_with_place (new_loaded_source setup) 0 work → script_left c sessions ≡ scheduled setup work sessions
   script_is sessions work are = ap (λ d. script_left d sessions) made ∙ ap (λ w. scheduled setup w sessions) (ap (map (λ (z : LoadedSource). z.site.left)) are ∙ left_of setup 0 work)
 
-  pub starts : {K : Type 0} (k : K) (ts : List ℕ) (schedule : ℕ × List Event) → IsSetup setup → AreFresh setup sources → store ≡ store_at_first setup → ts ≡ map (λ (z : LoadedSource). length z.site.left) sources
-      → IsStart (record { script = script_left c schedule.0; events = schedule.1; sink = k }) c k ts
+  pub starts : {K : Type 0} (k : K) (ts : List ℕ) (schedule : ℕ × Plan) → IsSetup setup → AreFresh setup sources → store ≡ store_at_first setup → ts ≡ map (λ (z : LoadedSource). length z.site.left) sources
+      → IsStart (record { script = script_left c schedule.0; plan = schedule.1; sink = k }) c k ts
   starts k ts schedule valid fresh first counts =
-      subst (λ (s : Script). IsStart (record { script = s; events = schedule.1; sink = k }) c k ts) (sym (script_is schedule.0 fresh.work fresh.are)) (record {
+      subst (λ (s : Script). IsStart (record { script = s; plan = schedule.1; sink = k }) c k ts) (sym (script_is schedule.0 fresh.work fresh.are)) (record {
         valid = valid;
         is_work = fresh.is_work;
         setup = ap (λ (d : CoreData). d.setup) made;

@@ -30,7 +30,7 @@ use Rattle.whips_core.specs.Cores.{CoreData}
 use Rattle.whips_world.specs.Lines.{version_line, event_lines, end_lines}
 use Rattle.whips_report.specs.Told.{Telling, TellsOn, FailsLater}
 use Rattle.whips_world.specs.Runs.{IsFirstPart, Start, whole, IsAt, IsStart, IsOnWay, IsDrained, TellsPart, TellsWhole}
-use Rattle.whips_world.proofs.Grows.{finished_grows, final_grows, rest_grows}
+use Rattle.whips_world.proofs.Grows.{finished_grows, final_grows, run_grows}
 use Rattle.whips_world.proofs.Drains.{first_is_enabled, step_falls, event_steps, finished_next, finished_here}
 use Rattle.whips_world.proofs.Moves.{carries, enabled_is, first_is, event_reports, event_full, event_at, next_carries, version_is, ends_are, slots_long}
 
@@ -76,7 +76,7 @@ module _ {K : Type 0} (told : Telling K) (on : TellsOn told) (a : Start K) where
       let here : Carries a.script c.loaded (start f) = subst (λ l. Carries a.script l (start f)) (sym h.loaded) (core_carries a.script h.valid h.is_work []) in
       let same : version_line c.loaded ∷ [] ≡ reported a.script (start_world f) = ap (λ r. r ∷ []) (version_is a.script c.loaded (start f) here (version_cuts (start f))) in
       subst (λ xs. IsFirstPart xs (reported a.script (whole a))) (sym same)
-      (rest_grows a.script 1 a.events (start_world f) (start_told f))
+      (run_grows a.script a.plan)
 
   pub begin_tried : (failed : Telling K) (c : CoreData) (k l : K) (ts : List ℕ) → IsStart a c k ts → failed k l (version_line c.loaded ∷ []) → TellsPart failed a l
   begin_tried failed c k l ts h lines = (version_line c.loaded ∷ [], begin_part c k ts h, subst (λ z. failed z l (version_line c.loaded ∷ [])) h.sink lines)

@@ -4,6 +4,7 @@
 
 mod events;
 mod lines;
+mod picks;
 mod readers;
 mod runs;
 mod schedule;

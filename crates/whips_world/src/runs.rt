@@ -45,7 +45,7 @@ fn run_on<T: Site, S: Store, K: RecordSink>(
     ghost at: { Start K }
     requires start { IsStart at core.old sink.old transactions.now }
     requires sessions { schedule.now.sessions ≡ at.script.sessions }
-    requires events { schedule.now.events.now ≡ at.events }
+    requires plan { schedule.now.plan.now ≡ at.plan }
     ensures told { IfOk result (λ full. TellsWhole K.told at sink.new full) }
     ensures ended { OnOk result (Carries at.script core.new.loaded (whole at).pipeline) }
     ensures memory { IfErr result (λ r. r ≡ RecordErr.NoMemory → TellsPart K.told at sink.new) }
@@ -74,8 +74,8 @@ pub struct Ran<T: Site, S> {
 }
 
 /// Runs the script of this setup, the workload that the sources have, and the sessions of the schedule: first the events
-/// of the schedule in order, where one that can't be done is skipped, and then the first event that can be done again and
-/// again, until none is left or a view has too few slots. The sink is told the records of the run, one at a time. It hands
+/// of its plan, of which a listed one that can't be done is skipped, and a picked one is picked among those that can be
+/// done; and then the first event that can be done again and again, until none is left or a view has too few slots. The sink is told the records of the run, one at a time. It hands
 /// back the sources and the store, whose logs, counts of commits and phase are those of the run's machine, and whose rows
 /// are the views' values at its last cut. Where it fails, the sink was told a first part of these records.
 pub fn run<T: Site + Drop, S: Store + Drop, K: RecordSink>(
@@ -91,19 +91,19 @@ pub fn run<T: Site + Drop, S: Store + Drop, K: RecordSink>(
         → sources.items ≡ map_with_place (new_loaded_source setup) 0 work
         → TellsWhole K.told (record {
           script = scheduled setup work schedule.now.sessions;
-          events = schedule.now.events.now;
+          plan = schedule.now.plan.now;
           sink = sink.old;
         }) sink.new ran.is_full) }
     ensures ended { IfOk result (λ ran. (work : List (List Updates)) → IsWorkload setup work
         → sources.items ≡ map_with_place (new_loaded_source setup) 0 work
-        → EndsWith (scheduled setup work schedule.now.sessions) schedule.now.events.now
+        → EndsWith (scheduled setup work schedule.now.sessions) schedule.now.plan.now
         ran.sources.items (S.state ran.store)) }
     ensures memory { IfErr result (λ r. r ≡ RecordErr.NoMemory → (work : List (List Updates))
         → IsWorkload setup work
         → sources.items ≡ map_with_place (new_loaded_source setup) 0 work
         → TellsPart K.told (record {
           script = scheduled setup work schedule.now.sessions;
-          events = schedule.now.events.now;
+          plan = schedule.now.plan.now;
           sink = sink.old;
         }) sink.new) }
     ensures failed { IfErr result (λ r. r ≡ RecordErr.Failed → (work : List (List Updates))
@@ -111,7 +111,7 @@ pub fn run<T: Site + Drop, S: Store + Drop, K: RecordSink>(
         → sources.items ≡ map_with_place (new_loaded_source setup) 0 work
         → TellsPart K.failed (record {
           script = scheduled setup work schedule.now.sessions;
-          events = schedule.now.events.now;
+          plan = schedule.now.plan.now;
           sink = sink.old;
         }) sink.new) }
 {

@@ -1,27 +1,31 @@
-//! The listed events of a run: each is done, or told as skipped.
-ghost use Rattle.std.specs.Prelude.{◌≡◌, ◌∷◌, ℕ, suc, true, false, List, OnOk, IfOk, IfErr};
+//! The events of a run's plan: each listed one is done, or told as skipped, and each picked one is done.
+ghost use Rattle.std.specs.Prelude.{◌≡◌, ◌<◌, ◌∷◌, ℕ, suc, true, false, List, length, if◌then◌else◌, OnOk, IfOk, IfErr};
 ghost use Rattle.whips_flow.specs.Events.{is_pipeline_event};
+ghost use Rattle.whips_runs.specs.Picks.{is_scan};
 ghost use Rattle.whips_world.specs.Readers.{is_allowed_here};
-ghost use Rattle.whips_world.specs.Runs.{Start, IsOnPlan, IsTurned, IsBegun, IsPlayed, TellsPart};
+ghost use Rattle.whips_world.specs.Runs.{Start, Left, events_left, turns_left, IsOnPlan, IsDue, IsTurned, IsBegun, IsPlayed, TellsPart};
 
 use crate::events::do_event;
+use crate::picks::pick;
 use crate::readers::{
     Reader, close, closed_readers, fetch, is_closed_at, is_open_at, is_scanning_at, open, scan,
 };
 use std::alloc::Global;
 use whips_core::Core;
 use whips_flow::Event;
+use whips_pick::Picker;
 use whips_report::{Rec, RecordErr, RecordSink};
+use whips_setup::Plan;
 use whips_source::Site;
 use whips_store::Store;
 
-/// What readers and their schedule do in a run.
+/// How many reader sessions a run has, and its plan.
 #[derive(Clone, Copy)]
 pub struct Schedule<'a> {
     /// How many sessions there are.
     pub sessions: usize,
-    /// The events that are done first, in order. One that can't be done in its turn is skipped.
-    pub events: &'a [Event],
+    /// Which events are done first.
+    pub plan: &'a Plan,
 }
 
 /// Whether the event can be done.
@@ -45,21 +49,25 @@ fn do_session<T: Site, S: Store, K: RecordSink>(
     e: Event,
     sink: &mut K,
 ) -> Result<(), RecordErr>
-    ghost at: { Start K × ℕ × List Event }
+    ghost at: { Start K }
     requires allowed { is_allowed_here core.now readers.old e ≡ true }
     requires session { is_pipeline_event e ≡ false }
-    requires plan { IsOnPlan K.told at.0 (record {
+    requires due { (left : Left) × IsDue K.told at (record {
       core = core.now;
       readers = readers.old;
       sink = sink.old;
-    }) at.1 (e ∷ at.2) }
-    ensures ok { OnOk result (IsOnPlan K.told at.0 (record {
+    }) e left }
+    ensures ok { OnOk result ((left : Left) → IsDue K.told at (record {
+      core = core.now;
+      readers = readers.old;
+      sink = sink.old;
+    }) e left → IsOnPlan K.told at (record {
       core = core.now;
       readers = readers.new;
       sink = sink.new;
-    }) (suc at.1) at.2) }
-    ensures memory { IfErr result (λ r. r ≡ RecordErr.NoMemory → TellsPart K.told at.0 sink.new) }
-    ensures failed { IfErr result (λ r. r ≡ RecordErr.Failed → TellsPart K.failed at.0 sink.new) }
+    }) left) }
+    ensures memory { IfErr result (λ r. r ≡ RecordErr.NoMemory → TellsPart K.told at sink.new) }
+    ensures failed { IfErr result (λ r. r ≡ RecordErr.Failed → TellsPart K.failed at sink.new) }
 {
     match e {
         Event::SessionOpen(s) => open(core.store(), readers, s, sink),
@@ -73,8 +81,42 @@ fn do_session<T: Site, S: Store, K: RecordSink>(
     }
 }
 
-/// The turn of an event at its place in the schedule, from 1: it is done, or told as skipped. It answers whether a view
-/// was full for it.
+/// Does an event that can be done, and tells what it brought. It answers whether a view was full for it.
+fn act<T: Site, S: Store, K: RecordSink>(
+    alloc: Global,
+    core: &mut Core<T, S>,
+    readers: &mut [Reader],
+    e: Event,
+    sink: &mut K,
+) -> Result<bool, RecordErr>
+    ghost at: { Start K }
+    requires allowed { is_allowed_here core.old readers.old e ≡ true }
+    requires due { (left : Left) × IsDue K.told at (record {
+      core = core.old;
+      readers = readers.old;
+      sink = sink.old;
+    }) e left }
+    ensures ok { IfOk result (λ full. (left : Left) → IsDue K.told at (record {
+      core = core.old;
+      readers = readers.old;
+      sink = sink.old;
+    }) e left → IsTurned K.told at (record {
+      core = core.new;
+      readers = readers.new;
+      sink = sink.new;
+    }) left full) }
+    ensures memory { IfErr result (λ r. r ≡ RecordErr.NoMemory → TellsPart K.told at sink.new) }
+    ensures failed { IfErr result (λ r. r ≡ RecordErr.Failed → TellsPart K.failed at sink.new) }
+{
+    if e.is_pipeline() {
+        return do_event(alloc, core, &e, sink);
+    }
+    do_session(alloc, core, readers, e, sink)?;
+    Ok(false)
+}
+
+/// The turn of an event at its place in the plan, from 1: it is done, or told as skipped. It answers whether a view was
+/// full for it.
 fn turn<T: Site, S: Store, K: RecordSink>(
     alloc: Global,
     core: &mut Core<T, S>,
@@ -88,12 +130,12 @@ fn turn<T: Site, S: Store, K: RecordSink>(
       core = core.old;
       readers = readers.old;
       sink = sink.old;
-    }) at.1 (entry.1 ∷ at.2) }
+    }) (events_left at.1 (entry.1 ∷ at.2)) }
     ensures ok { IfOk result (λ full. IsTurned K.told at.0 (record {
       core = core.new;
       readers = readers.new;
       sink = sink.new;
-    }) (at.1, at.2) full) }
+    }) (events_left (suc at.1) at.2) full) }
     ensures memory { IfErr result (λ r. r ≡ RecordErr.NoMemory → TellsPart K.told at.0 sink.new) }
     ensures failed { IfErr result (λ r. r ≡ RecordErr.Failed → TellsPart K.failed at.0 sink.new) }
 {
@@ -105,14 +147,88 @@ fn turn<T: Site, S: Store, K: RecordSink>(
         })?;
         return Ok(false);
     }
-    if e.is_pipeline() {
-        return do_event(alloc, core, &e, sink);
+    act(alloc, core, readers, e, sink)
+}
+
+/// Does these events, one after another. It answers whether a view was full for one, which ends the run.
+fn play_listed<T: Site, S: Store, K: RecordSink>(
+    alloc: Global,
+    core: &mut Core<T, S>,
+    readers: &mut [Reader],
+    events: &[Event],
+    sink: &mut K,
+) -> Result<bool, RecordErr>
+    ghost at: { Start K × List Event }
+    requires events { events.now ≡ at.1 }
+    requires plan { IsOnPlan K.told at.0 (record {
+      core = core.old;
+      readers = readers.old;
+      sink = sink.old;
+    }) (events_left 1 at.1) }
+    ensures ok { IfOk result (λ full. IsPlayed K.told at.0 core.new sink.new full) }
+    ensures memory { IfErr result (λ r. r ≡ RecordErr.NoMemory → TellsPart K.told at.0 sink.new) }
+    ensures failed { IfErr result (λ r. r ≡ RecordErr.Failed → TellsPart K.failed at.0 sink.new) }
+{
+    for i in 0..events.len() {
+        let entry = (i as u64 + 1, events[i]);
+        if turn(alloc, core, readers, entry, sink)? {
+            return Ok(true);
+        }
     }
-    do_session(alloc, core, readers, e, sink)?;
     Ok(false)
 }
 
-/// Does the events of the schedule, one after another. It answers whether a view was full for one, which ends the run.
+/// Whether the event begins a scan.
+fn is_scan(e: &Event) -> bool
+    ensures { result ≡ is_scan e.now }
+{
+    matches!(e, Event::SessionScan(_, _))
+}
+
+/// How many scans were begun, where so many were before the event.
+fn scans_after(scans: u32, e: &Event) -> u32
+    requires { scans < 4294967295 }
+    ensures { result ≡ if is_scan e.now then suc scans else scans }
+{
+    if is_scan(e) { scans + 1 } else { scans }
+}
+
+/// Picks events from this start and does each, so many at most, until none can be picked. It answers whether a view was
+/// full for one, which ends the run.
+fn play_picked<T: Site, S: Store, K: RecordSink>(
+    alloc: Global,
+    core: &mut Core<T, S>,
+    readers: &mut [Reader],
+    turns: (u32, u32),
+    sink: &mut K,
+) -> Result<bool, RecordErr>
+    ghost at: { Start K }
+    requires sessions { length readers.old ≡ at.script.sessions }
+    requires plan { IsOnPlan K.told at (record {
+      core = core.old;
+      readers = readers.old;
+      sink = sink.old;
+    }) (turns_left turns.1 turns.0 0) }
+    ensures ok { IfOk result (λ full. IsPlayed K.told at core.new sink.new full) }
+    ensures memory { IfErr result (λ r. r ≡ RecordErr.NoMemory → TellsPart K.told at sink.new) }
+    ensures failed { IfErr result (λ r. r ≡ RecordErr.Failed → TellsPart K.failed at sink.new) }
+{
+    let (start, steps) = turns;
+    let mut picker = Picker::new(start);
+    let mut scans = 0;
+    for i in 0..steps {
+        let Some(e) = pick(core, readers, &mut picker, scans) else {
+            return Ok(false);
+        };
+        scans = scans_after(scans, &e);
+        if act(alloc, core, readers, e, sink)? {
+            return Ok(true);
+        }
+    }
+    Ok(false)
+}
+
+/// Does the events of the plan, one after another. It answers whether a view was full for one, which ends the run.
 pub(crate) fn play<T: Site, S: Store, K: RecordSink>(
     alloc: Global,
     core: &mut Core<T, S>,
@@ -121,17 +237,16 @@ pub(crate) fn play<T: Site, S: Store, K: RecordSink>(
 ) -> Result<bool, RecordErr>
     ghost at: { Start K }
     requires { IsBegun K.told at core.old sink.old
-        (schedule.now.sessions, schedule.now.events.now) }
+        (schedule.now.sessions, schedule.now.plan.now) }
     ensures ok { IfOk result (λ full. IsPlayed K.told at core.new sink.new full) }
     ensures memory { IfErr result (λ r. r ≡ RecordErr.NoMemory → TellsPart K.told at sink.new) }
     ensures failed { IfErr result (λ r. r ≡ RecordErr.Failed → TellsPart K.failed at sink.new) }
 {
     let mut readers = closed_readers(alloc, schedule.sessions, core.setup().views())?;
-    for i in 0..schedule.events.len() {
-        let entry = (i as u64 + 1, schedule.events[i]);
-        if turn(alloc, core, &mut readers, entry, sink)? {
-            return Ok(true);
+    match schedule.plan {
+        Plan::Listed(events) => play_listed(alloc, core, &mut readers, events.as_slice(), sink),
+        Plan::Picked { start, steps } => {
+            play_picked(alloc, core, &mut readers, (*start, *steps), sink)
         }
     }
-    Ok(false)
 }

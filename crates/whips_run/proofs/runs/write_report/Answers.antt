@@ -1,7 +1,7 @@
-use Rattle.std.proofs.Common.{◌≡◌, List, [], length, sym, ap, ap₂, subst, ◌∙◌, arith}
+use Rattle.std.proofs.Common.{◌≡◌, List, length, refl, sym, ap, ap₂, subst, ◌∙◌, arith}
 use Rattle.whips_facts.specs.Scripts.{Bytes, Labels}
 use Rattle.whips_facts.specs.Values.{IsValidScript}
-use Rattle.whips_script.specs.Script.{NamedScript}
+use Rattle.whips_script_reading.specs.Script.{NamedScript}
 use Rattle.whips_world.specs.Runs.{scheduled, EndsWith}
 use Rattle.whips_core_laws.proofs.Valid.{valid_script}
 use Rattle.whips_run.specs.Answer.{run_of_script, report_of}
@@ -14,12 +14,12 @@ returns-in_err-copy-clause-written g c = want_memory (λ ran. ran.is_full) (repo
 pub returns-clause-written : goal.returns-clause-written
 returns-clause-written g c =
     let parts = c.into_parts-sources in
-    let labels : Labels = record { sources = parts.result.sources.items; views = parts.result.views.items; sessions = parts.result.sessions.items; texts = [] } in
-    named_written c.args.script parts.result.setup parts.result.work labels c.new-labels.result parts.result.events.items c.deref-4.result.now c.len.result _ _ _ parts.ensures.parts
+    let labels : Labels = record { sources = parts.result.sources.items; views = parts.result.views.items; sessions = parts.result.sessions.items; texts = parts.result.texts } in
+    named_written c.args.script parts.result.setup parts.result.work labels c.new-labels.result c.args.script.relations parts.result.plan parts.result.plan c.len.result _ _ _ parts.ensures.parts
     (c.new-labels.ensures
-    ∙ (ap₂ (λ (a b : List Bytes). record { sources = a; views = b; sessions = c.deref-3.result.now; texts = [] }) c.deref.ensures.value c.deref-2.ensures.value
-    ∙ ap (λ (s : List Bytes). record labels { sessions = s }) c.deref-3.ensures.value))
-    c.deref-4.ensures.value (omega (arith, c.len.ensures, c.deref-3.ensures.len, ap length c.deref-3.ensures.value)) c.write_job.ensures.written
+    ∙ (ap₂ (λ (a b : List Bytes). record { sources = a; views = b; sessions = c.deref-3.result.now; texts = c.as_slice.result.now }) c.deref.ensures.value c.deref-2.ensures.value
+    ∙ ap₂ (λ (s t : List Bytes). record labels { sessions = s; texts = t }) c.deref-3.ensures.value c.as_slice.ensures))
+    refl (omega (arith, c.len.ensures, c.deref-3.ensures.len, ap length c.deref-3.ensures.value)) c.write_job.ensures.written
 
 pub returns-clause-valid : goal.returns-clause-valid
 returns-clause-valid g c =
@@ -31,6 +31,5 @@ returns-clause-ended g c =
     let parts = c.into_parts-sources in
     let count : c.len.result ≡ length parts.result.sessions.items = omega (arith, c.len.ensures, c.deref-3.ensures.len, ap length c.deref-3.ensures.value) in
     if_is_ok c.write_job.result c.write_job.ensures.ended (λ ran h.
-    subst (λ (n : NamedScript). EndsWith n.script n.events ran.sources.items ran.store) (sym parts.ensures.parts)
-    (subst (λ n. EndsWith (scheduled parts.result.setup parts.result.work n) parts.result.events.items ran.sources.items ran.store) count
-    (subst (λ es. EndsWith (scheduled parts.result.setup parts.result.work c.len.result) es ran.sources.items ran.store) c.deref-4.ensures.value h)))
+    subst (λ (n : NamedScript). EndsWith n.script n.plan ran.sources.items ran.store) (sym parts.ensures.parts)
+    (subst (λ n. EndsWith (scheduled parts.result.setup parts.result.work n) parts.result.plan ran.sources.items ran.store) count h))

@@ -21,7 +21,7 @@ play-requires g c = λ κs lives. (
         record {
           at = run_begins g.K.RecordSink.told g.met.K.RecordSink.told_more g.at c.args.core.now c.args.sink.now c.tell_version.new.sink c.args.transactions.now c.requires.1.1.1.1.0 c.in_ok-tell_version.ensures.told;
           sessions = c.requires.1.1.1.1.1.0;
-          events = c.requires.1.1.1.1.1.1;
+          plan = c.requires.1.1.1.1.1.1;
         },
       ),
     ),

@@ -1,4 +1,4 @@
 use Rattle.whips_world.proofs.schedule.turn.Given as goal
 
-abbrev pub ghost-do_session : goal.ghost-do_session
-ghost-do_session g a = g.at
+abbrev pub ghost-act : goal.ghost-act
+ghost-act g a = g.at.0

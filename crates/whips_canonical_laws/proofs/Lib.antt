@@ -1,0 +1,5 @@
+pub mod Printed
+pub mod Lists
+pub mod Values
+pub mod Views
+pub mod Schedules

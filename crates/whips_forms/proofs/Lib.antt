@@ -1,3 +1,0 @@
-pub mod Documents
-pub mod Each
-pub mod Edits

@@ -1,5 +1,0 @@
-pub mod Json
-pub mod Names
-pub mod Forms
-pub mod Rows
-pub mod Relations

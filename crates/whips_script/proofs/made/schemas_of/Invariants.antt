@@ -1,6 +1,0 @@
-use Rattle.std.proofs.Common.{◌≡◌, map, take}
-use Rattle.whips_forms.specs.Relations.{RelationForm}
-use Rattle.whips_script.proofs.made.schemas_of.Given as goal
-
-abbrev pub invariant-loop-relation : goal.invariant-loop-relation
-invariant-loop-relation l = l.schemas.items ≡ map (λ (r : RelationForm). r.table.columns) (take l.relation-index l.relations)

@@ -1,0 +1,4 @@
+pub mod Objects
+pub mod Relations
+pub mod Views
+pub mod Scripts

@@ -1,2 +1,0 @@
-pub mod ViewParts
-pub mod Homes

@@ -1,5 +1,0 @@
-use Rattle.std.proofs.Common.{length}
-use Rattle.whips_view_forms.proofs.columns.+add_columns.Given as goal
-
-abbrev pub decreases-add_columns : goal.decreases-add_columns
-decreases-add_columns l = length l.numbers.now
