@@ -40,7 +40,7 @@ found_is p (y ∷ xs) x e = go (λ f. found_is p xs x f) (p y) refl e
 
 -- ---- texts and names
 
-text_is : (d : Data) (t : Text) → as_str d ≡ Some t → string t ≡ d
+pub text_is : (d : Data) (t : Text) → as_str d ≡ Some t → string t ≡ d
 text_is null t e = absurd (cc)
 text_is (boolean b) t e = absurd (cc)
 text_is (number n) t e = absurd (cc)
@@ -93,6 +93,9 @@ elements_listed least most place d ds e =
 -- what was read is one thing
 one_value : {A : Type 0} (r : Read A) (x y : A) → r ≡ Ok x → r ≡ Ok y → x ≡ y
 one_value r x y e f = cc
+
+pub same_value : {A : Type 0} (x y : A) → (let r : Read A = Ok x in r) ≡ Ok y → x ≡ y
+same_value x y e = cc
 
 pub pair_written : (place : Place) (d a b : Data) → pair place d ≡ Ok (a, b) → list_data (a ∷ b ∷ []) ≡ d
 pair_written place d a b e = let l = bound (listed place d) (pair_of place) (a, b) e in go l.0 l.1 l.2

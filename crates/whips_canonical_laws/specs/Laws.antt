@@ -2,31 +2,34 @@
 use Rattle.std.specs.Prelude.{◌≡◌, ℕ, List, [], ◌∷◌, map, Option, Some, Ok}
 use Rattle.std.specs.List.{AllByRecursion}
 use Rattle.serde_json.specs.Data.{Data}
-use Rattle.serde_json.specs.Find.{as_str}
+use Rattle.serde_json.specs.Find.{get, as_str}
 use Rattle.whips_model.specs.declared.Kind.{Kind}
 use Rattle.whips_model.specs.declared.ColRef.{ColRef}
 use Rattle.whips_model.specs.declared.Cond.{Cond}
-use Rattle.whips_model.specs.Tuples.{Codes}
+use Rattle.whips_model.specs.Tuples.{Codes, Columns}
+use Rattle.whips_model.specs.Relation.{Table}
 use Rattle.whips_setup.specs.declared.plan.Plan.TheVariants.{Picked}
+use Rattle.whips_view.specs.ViewDefs.{View}
 use Rattle.whips_facts.specs.Scripts.{Labels}
 use Rattle.whips_reports.specs.Lines.{name_at, value_data}
+use Rattle.whips_reading.specs.declared.place.Member.TheVariants as member
 use Rattle.whips_reading.specs.Json.{Text}
-use Rattle.whips_reading.specs.Places.{Place}
+use Rattle.whips_reading.specs.Places.{Place, member_name}
 use Rattle.whips_reading.specs.Reading.{elements_of, number_within}
 use Rattle.whips_texts.specs.Texts.{rank}
 use Rattle.whips_texts.specs.Values.{value_in}
 use Rattle.whips_relation_reading.specs.Columns.{NamedColumns, columns_in, key_in}
-use Rattle.whips_relation_reading.specs.Rows.{values}
-use Rattle.whips_relation_reading.specs.Relations.{RelationForm}
+use Rattle.whips_relation_reading.specs.Rows.{values, rows_in}
+use Rattle.whips_relation_reading.specs.Relations.{RelationForm, relation_in}
 use Rattle.whips_view_reading.specs.Columns.{view_columns}
 use Rattle.whips_view_reading.specs.Choices.{equalities_in, conditions_in, out_in}
-use Rattle.whips_view_reading.specs.Views.{relations_in}
+use Rattle.whips_view_reading.specs.Views.{Basis, relations_in, ViewForm, view_in}
 use Rattle.whips_plan_reading.specs.Sessions.{sessions_in}
 use Rattle.whips_plan_reading.specs.Schedules.{picked_in}
 use Rattle.whips_script_writing.specs.Objects.{number_data, list_data, text_list}
-use Rattle.whips_script_writing.specs.Relations.{values_data, columns_data}
+use Rattle.whips_script_writing.specs.Relations.{values_data, rows_data, columns_data, relation_data}
 use Rattle.whips_script_writing.specs.Scripts.{picked_data}
-use Rattle.whips_script_writing.specs.Views.{column_text, equality_data, condition_data}
+use Rattle.whips_script_writing.specs.Views.{column_text, equality_data, condition_data, view_data}
 
 -- Where the value is a text, the text with its code is the text again: it is one of these.
 abbrev pub Knows : List Text → Data → Type 0
@@ -36,6 +39,14 @@ Knows texts d = (t : Text) → as_str d ≡ Some t → t ≡ name_at texts (rank
 abbrev pub KnowsEach : List Text → Data → Type 0
 KnowsEach texts d = (ds : List Data) → elements_of d ≡ Some ds → AllByRecursion (Knows texts) ds
 
+-- of each list of a list,
+abbrev pub KnowsRows : List Text → Data → Type 0
+KnowsRows texts d = (ds : List Data) → elements_of d ≡ Some ds → AllByRecursion (KnowsEach texts) ds
+
+-- and of the rows of a relation, where it has any,
+abbrev pub KnowsRelation : List Text → Data → Type 0
+KnowsRelation texts d = (rows : Data) → get (member_name member.Rows) d ≡ Some rows → KnowsRows texts rows
+
 -- and of the constants of conditions, which stand third.
 abbrev pub KnowsThird : List Text → Option (List Data) → Type 0
 KnowsThird texts (Some (column ∷ comparison ∷ value ∷ [])) = Knows texts value
@@ -43,6 +54,9 @@ KnowsThird texts _ = Unit {0}
 
 abbrev pub KnowsConditions : List Text → Data → Type 0
 KnowsConditions texts d = (ds : List Data) → elements_of d ≡ Some ds → AllByRecursion (λ c. KnowsThird texts (elements_of c)) ds
+
+abbrev pub KnowsView : List Text → Data → Type 0
+KnowsView texts d = (conds : Data) → get (member_name member.Where) d ≡ Some conds → KnowsConditions texts conds
 
 -- ---- values
 
@@ -62,6 +76,17 @@ ColumnsAreWritten = (place : Place) (d : Data) (columns : NamedColumns) → colu
 abbrev pub KeysAreWritten : Type 0
 KeysAreWritten = (names : List Text) (place : Place) (d : Data) (key : List ℕ) → key_in names place d ≡ Ok key → text_list (map (name_at names) key) ≡ d
 
+-- The rows of a relation, written in the order of their keys, are read as the same relation.
+abbrev pub RelationRowsAreRead : Type 0
+RelationRowsAreRead = (l : Labels) (columns : Columns) (place : Place) (d : Data) (table : Table)
+    → KnowsRows l.texts d → rows_in l.texts (let t : Table = record { columns = columns; rows = [] } in t) place d ≡ Ok table
+    → rows_in l.texts (let t : Table = record { columns = columns; rows = [] } in t) place (list_data (rows_data l columns.kinds table.rows)) ≡ Ok table
+
+-- A relation, written with every member, is read as the same relation.
+abbrev pub RelationsAreRead : Type 0
+RelationsAreRead = (l : Labels) (relations : List RelationForm) (place : Place) (d : Data) (r : RelationForm)
+    → KnowsRelation l.texts d → relation_in l.texts relations place d ≡ Ok r → relation_in l.texts relations place (relation_data l r) ≡ Ok r
+
 -- ---- views
 
 abbrev pub ViewRelationsAreWritten : Type 0
@@ -78,6 +103,11 @@ EqualitiesAreWritten = (relations : List RelationForm) (numbers : List ℕ) (pla
 abbrev pub ConditionsAreWritten : Type 0
 ConditionsAreWritten = (l : Labels) (relations : List RelationForm) (numbers : List ℕ) (place : Place) (d : Data) (conds : List Cond)
     → KnowsConditions l.texts d → conditions_in (view_columns relations 0 numbers) l.texts place d ≡ Ok conds → list_data (map (condition_data l relations numbers) conds) ≡ d
+
+-- A view, written with every member, is read as the same view.
+abbrev pub ViewsAreRead : Type 0
+ViewsAreRead = (l : Labels) (basis : Basis) → l.texts ≡ basis.texts → (taken : List Text) (place : Place) (d : Data) (v : ViewForm) (view : View)
+    → KnowsView l.texts d → view.parts ≡ v.parts → view_in basis taken place d ≡ Ok v → view_in basis taken place (view_data l basis.relations v.name view v.slots) ≡ Ok v
 
 -- ---- sessions
 

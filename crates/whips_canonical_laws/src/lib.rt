@@ -3,7 +3,7 @@
 #![tactic(auto)]
 
 ghost use Rattle.whips_canonical_laws.specs.Plain.{CompactTextsAreRead};
-ghost use Rattle.whips_canonical_laws.specs.Laws.{ValuesAreWritten, RowsAreWritten, ColumnsAreWritten, KeysAreWritten, ViewRelationsAreWritten, OutIsWritten, EqualitiesAreWritten, ConditionsAreWritten, SessionsAreWritten, NumbersAreWritten, PickedAreRead};
+ghost use Rattle.whips_canonical_laws.specs.Laws.{ValuesAreWritten, RowsAreWritten, ColumnsAreWritten, KeysAreWritten, RelationRowsAreRead, RelationsAreRead, ViewRelationsAreWritten, OutIsWritten, EqualitiesAreWritten, ConditionsAreWritten, ViewsAreRead, SessionsAreWritten, NumbersAreWritten, PickedAreRead};
 
 /// Law: the compact text of plain data that isn't nested too deep is read as that data.
 pub fn compact_texts_are_read()
@@ -30,6 +30,16 @@ pub fn keys_are_written()
     ensures { KeysAreWritten }
 {}
 
+/// Law: the rows of a relation, written in the order of their keys, are read as the same relation.
+pub fn relation_rows_are_read()
+    ensures { RelationRowsAreRead }
+{}
+
+/// Law: a relation, written with every member, is read as the same relation.
+pub fn relations_are_read()
+    ensures { RelationsAreRead }
+{}
+
 /// Law: the relations of a view that were read are written as they were.
 pub fn view_relations_are_written()
     ensures { ViewRelationsAreWritten }
@@ -48,6 +58,11 @@ pub fn equalities_are_written()
 /// Law: the conditions of a view that were read are written as they were.
 pub fn conditions_are_written()
     ensures { ConditionsAreWritten }
+{}
+
+/// Law: a view, written with every member, is read as the same view.
+pub fn views_are_read()
+    ensures { ViewsAreRead }
 {}
 
 /// Law: sessions that were read are written as they were.

@@ -33,7 +33,7 @@ fn view_changes(
     ensures changes { IfOk result (λ p. p.1.items ≡ net_changes rows.now.columns.key rows.now.rows
         (rows_after x view.now lists.now rows.now.rows)) }
 {
-    let mut draft = Draft::of(alloc, rows)?;
+    let mut draft = Draft::of(rows)?;
     for list in lists {
         if list.view == x {
             apply_in(alloc, view, list, &mut draft)?;

@@ -115,7 +115,7 @@ fn two(alloc: Global) -> Result<Relation, NoMemory>
     ensures { IfOk result (λ r. r.columns.kinds ≡ Number ∷ Number ∷ []) }
 {
     let schema = schema(alloc, &[Kind::Number, Kind::Number], &[1])?;
-    let mut relation = Relation::new(alloc, schema);
+    let mut relation = Relation::new(alloc, schema)?;
     put(alloc, &mut relation, &[3, 6])?;
     put(alloc, &mut relation, &[2, 4])?;
     Ok(relation)
@@ -248,7 +248,7 @@ fn are_many(alloc: Global, relation: &mut Relation) -> Result<bool, NoMemory>
 
 fn fill(alloc: Global) -> Result<bool, NoMemory> {
     let schema = schema(alloc, &[Kind::Number, Kind::Number], &[1])?;
-    let mut relation = Relation::new(alloc, schema);
+    let mut relation = Relation::new(alloc, schema)?;
     are_many(alloc, &mut relation)
 }
 

@@ -37,7 +37,7 @@ pub fn pair_schemas(alloc: Global) -> Result<Vec<Schema>, NoMemory>
 pub fn no_pairs(alloc: Global) -> Result<Relation, NoMemory>
     ensures { IfOk result (λ r. r ≡ no_pairs) }
 {
-    Ok(Relation::new(alloc, pair_schema(alloc)?))
+    Relation::new(alloc, pair_schema(alloc)?)
 }
 
 /// Puts a pair in.

@@ -77,8 +77,8 @@ fn begin(alloc: Global, start: u32) -> Result<Making, NoMemory>
 {
     Ok(Making {
         picker: Picker::new(start),
-        orders: Relation::new(alloc, order_schema(alloc)?),
-        items: Relation::new(alloc, item_schema(alloc)?),
+        orders: Relation::new(alloc, order_schema(alloc)?)?,
+        items: Relation::new(alloc, item_schema(alloc)?)?,
         sales: Vec::new(alloc),
         stock: Vec::new(alloc),
     })

@@ -53,8 +53,8 @@ fn relations(alloc: Global) -> Result<Vec<Relation>, NoMemory>
     ensures { IfOk result (λ r. r.items ≡ shop_tables) }
 {
     let mut relations = Vec::new(alloc);
-    relations.push(Relation::new(alloc, order_schema(alloc)?))?;
-    relations.push(Relation::new(alloc, item_schema(alloc)?))?;
+    relations.push(Relation::new(alloc, order_schema(alloc)?)?)?;
+    relations.push(Relation::new(alloc, item_schema(alloc)?)?)?;
     Ok(relations)
 }
 

@@ -127,7 +127,7 @@ fn fed(alloc: Global, view: &ViewDef, n: u64) -> Result<(usize, usize, ActionLis
 pub fn run(alloc: Global, n: u64) -> Result<Counts, Stop> {
     let view = join(alloc)?;
     let (asks, found, list) = fed(alloc, &view, n)?;
-    let none = Relation::new(alloc, view.schema().copy()?);
+    let none = Relation::new(alloc, view.schema().copy()?)?;
     let rows = apply_to(alloc, &view, &list, none)?;
     Ok(Counts {
         asks,

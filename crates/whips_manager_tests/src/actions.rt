@@ -27,7 +27,7 @@ fn put(alloc: Global, rows: &mut Rows, codes: &[u64]) -> Result<(), NoMemory>
 fn rows_of(alloc: Global, view: &ViewDef, codes: &[[u64; 2]]) -> Result<Rows, NoMemory>
     ensures { IfOk result (λ r. r.columns ≡ row_columns view.now) }
 {
-    let mut rows = Rows::new(alloc, view.schema().copy()?);
+    let mut rows = Rows::new(alloc, view.schema().copy()?)?;
     for row in codes {
         put(alloc, &mut rows, row)?;
     }

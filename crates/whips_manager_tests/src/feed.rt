@@ -195,7 +195,7 @@ fn new(alloc: Global, view: &ViewDef) -> Result<Fed, NoMemory>
         manager: Manager::new(alloc, 7, view)?,
         taken: 0,
         asked: Vec::new(alloc),
-        rows: Rows::new(alloc, schema),
+        rows: Rows::new(alloc, schema)?,
     })
 }
 

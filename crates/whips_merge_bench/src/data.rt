@@ -43,8 +43,8 @@ fn two_views(alloc: Global, schemas: &Vec<Schema>) -> Result<Vec<ViewDef>, Stop>
 }
 
 fn two_relations(alloc: Global) -> Result<Vec<Relation>, NoMemory> {
-    let left = Relation::new(alloc, keys(alloc)?);
-    let right = Relation::new(alloc, keys(alloc)?);
+    let left = Relation::new(alloc, keys(alloc)?)?;
+    let right = Relation::new(alloc, keys(alloc)?)?;
     Ok(vec![in alloc; left, right]?)
 }
 

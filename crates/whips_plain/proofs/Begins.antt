@@ -10,8 +10,8 @@ use Rattle.whips_store.specs.declared.error.StoreErr.TheVariants.{Full}
 use Rattle.std.proofs.Math.Seq.{drop-cons}
 use Rattle.std.proofs.lemmas.Bool.{lt-ltb, le-ltb}
 use Rattle.whips_model.specs.Relation.{Table, value_of}
-use Rattle.whips_view.specs.ViewDefs.{View, row_columns}
-use Rattle.whips_setup.specs.Setups.{SetupData, columns_of}
+use Rattle.whips_view.specs.ViewDefs.{View}
+use Rattle.whips_setup.specs.Setups.{SetupData, columns_of, view_value}
 use Rattle.whips_setup.specs.Limits.{is_within_limits}
 use Rattle.whips_setup.specs.Refusals.{slots_refusal, IsSetup}
 use Rattle.whips_store.specs.Stores.{ViewState, ChangeLists, no_view}
@@ -132,8 +132,8 @@ first_fit x db (v ∷ views) (m ∷ slots) (suc i) n view h e f = first_fit (suc
 pub setup_fits : (s : SetupData) → IsSetup s → (i n : ℕ) (view : View) → slice_get s.views i ≡ Some view → slice_get s.slots i ≡ Some n → length (value_of view.parts s.initial) ≤ n
 setup_fits s h i n view e f = first_fit 0 s.initial s.views s.slots i n view (no_refusal (is_within_limits (columns_of s) s) (slots_refusal 0 s.initial s.views s.slots) Limit h.accepted) e f
 
-pub first_made : (db initial : List Table) (view : View) (rows : Table) (n : ℕ) (made : ViewState) → db ≡ initial → rows ≡ record { columns = row_columns view; rows = value_of view.parts db } → made ≡ first_view rows.columns rows.rows (n - length rows.rows) → made ≡ view_at_first initial view n
-first_made db initial view rows n made same is e = e ∙ ap (λ (t : Table). first_view t.columns t.rows (n - length t.rows)) is ∙ ap (λ db. view_at_first db view n) same
+pub first_made : (db : List Table) (view : View) (rows : Table) (n : ℕ) (made : ViewState) → rows ≡ view_value db view → made ≡ first_view rows.columns rows.rows (n - length rows.rows) → made ≡ view_at_first db view n
+first_made db view rows n made is e = e ∙ ap (λ (t : Table). first_view t.columns t.rows (n - length t.rows)) is
 
 pub first_slots_few : (db : List Table) (view : View) (n : ℕ) → length (value_of view.parts db) ≤ n → n < 2 ^ 32 → HasFewSlots (view_at_first db view n)
 first_slots_few db view n fits few =

@@ -8,18 +8,6 @@ use std::alloc::Global;
 use whips_plain_store::PlainView;
 use whips_rel::NoMemory;
 use whips_setup::Setup;
-use whips_view::Db;
-
-/// The relations with their initial rows. The tuples are shared.
-fn initial_relations(alloc: Global, setup: &Setup) -> Result<Db, NoMemory>
-    ensures { IfOk result (λ db. db ≡ setup.now.initial) }
-{
-    let mut relations = Vec::new(alloc);
-    for rel in 0..setup.relations() {
-        relations.push(setup.initial(rel).copy()?)?;
-    }
-    Ok(Db::of(relations))
-}
 
 /// The views with their values on the initial relations and the setup's slots.
 pub(crate) fn first_views(alloc: Global, setup: &Setup) -> Result<Vec<PlainView>, NoMemory>
@@ -27,12 +15,10 @@ pub(crate) fn first_views(alloc: Global, setup: &Setup) -> Result<Vec<PlainView>
         ≡ views_at_first setup.now.initial setup.now.views setup.now.slots) }
     ensures slots { IfOk result (λ views. AllByRecursion HasFewSlots views.items) }
 {
-    let db = initial_relations(alloc, setup)?;
     let _sound = setup.sources();
     let mut views = Vec::new(alloc);
     for x in 0..setup.views() {
-        let made = setup.view(x);
-        let rows = made.value(&db)?;
+        let rows = setup.value(x).copy()?;
         views.push(PlainView::make(alloc, rows, setup.slots(x) as usize)?)?;
     }
     Ok(views)

@@ -119,7 +119,7 @@ fn count_keys(
         ++ after.now.rows ∷ [])) }
 {
     let _sound = after.schema();
-    let mut rows = Relation::new(*records.allocator(), schema.copy()?);
+    let mut rows = Relation::new(*records.allocator(), schema.copy()?)?;
     let news = after.tuples()?;
     put_rows(&mut rows, news.as_slice())?;
     let (first, count) = versions_used(n, c);

@@ -19,7 +19,7 @@ use whips_reading::{
     Code, Member, ObjectForm, Path, ReadErr, Text, elements, in_element, in_member, object,
     optional, read_fresh_name, read_text, refuse, required,
 };
-use whips_rel::{Kinds, Places, Relation, Schema};
+use whips_rel::{Kinds, NoMemory, Places, Relation, Schema};
 use whips_texts::Dict;
 
 /// A relation with its name and the names of its columns.
@@ -145,14 +145,18 @@ fn read_new_name(
 }
 
 /// The relation with these columns and no rows, and the names of the columns.
-fn make_empty(alloc: Global, columns: NamedColumns, key: Vec<u32>) -> (Vec<Text>, Relation)
+fn make_empty(
+    alloc: Global,
+    columns: NamedColumns,
+    key: Vec<u32>,
+) -> Result<(Vec<Text>, Relation), NoMemory>
     requires { AreColumns columns.kinds key.items }
-    ensures names { result.0.items ≡ columns.names }
-    ensures relation { result.1 ≡ no_rows columns key.items }
+    ensures names { IfOk result (λ r. r.0.items ≡ columns.names) }
+    ensures relation { IfOk result (λ r. r.1 ≡ no_rows columns key.items) }
 {
     let NamedColumns { names, kinds } = columns;
     let schema = Schema::make(Kinds::of(kinds), Places::of(key));
-    (names, Relation::new(alloc, schema))
+    Ok((names, Relation::new(alloc, schema)?))
 }
 
 /// The columns and the key of a relation, as a relation with no rows, and the names of the columns.
@@ -168,7 +172,7 @@ fn read_empty(
     let columns = read_columns(alloc, &in_member(&*path, Member::Columns), columns)?;
     let key = required(alloc, path, value, Member::Key)?;
     let key = read_key(alloc, &columns.names, &in_member(&*path, Member::Key), key)?;
-    Ok(make_empty(alloc, columns, key))
+    Ok(make_empty(alloc, columns, key)?)
 }
 
 /// Adds the rows of a relation, of which there are none where the member is left out.

@@ -5,6 +5,7 @@ use Rattle.whips_reports.specs.Reported.{run_of}
 use Rattle.whips_reports.specs.Lines.{report}
 use Rattle.whips_reading.specs.Places.{Refusal, code_word, place_text}
 use Rattle.whips_script_reading.specs.Script.{NamedScript, script_of}
+use Rattle.whips_script_writing.specs.Scripts.{canonical}
 
 -- A text with a line feed.
 abbrev pub line : List ℕ → List ℕ
@@ -31,6 +32,18 @@ abbrev pub answer_of : Result NamedScript Refusal → ℕ × List ℕ
 answer_of (Ok n) = (run_status (run_of_script n), report_of n)
 answer_of (Err refusal) = (3, refusal_text refusal)
 
--- The status and the text for a whole input.
+-- The status and the text for a whole input that is run.
 unfoldable pub answer : List ℕ → ℕ × List ℕ
 answer bytes = answer_of (script_of bytes)
+
+-- The canonical text of a script, with a line feed.
+abbrev pub canonical_line : NamedScript → List ℕ
+canonical_line n = line (canonical n)
+
+-- The same for bytes that are checked.
+abbrev pub checked_of : Result NamedScript Refusal → ℕ × List ℕ
+checked_of (Ok n) = (0, canonical_line n)
+checked_of (Err refusal) = (3, refusal_text refusal)
+
+unfoldable pub checked : List ℕ → ℕ × List ℕ
+checked bytes = checked_of (script_of bytes)

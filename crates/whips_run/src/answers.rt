@@ -29,7 +29,7 @@ fn refusal_text(alloc: Global, refusal: &Refusal) -> Result<String, NoMemory>
 }
 
 /// Writes the refusal, and gives the status.
-fn answer_refusal<O: Sink>(alloc: Global, refusal: &Refusal, output: &mut O) -> u8
+pub(crate) fn answer_refusal<O: Sink>(alloc: Global, refusal: &Refusal, output: &mut O) -> u8
     ensures ended { result ≢ 5 → result ≢ 6 → (result ≡ 3)
         × Appends (O.written output.old) (O.written output.new) (refusal_text refusal.now) }
     ensures sink_failed { result ≡ 5 → (n : ℕ) × (n < length (refusal_text refusal.now))

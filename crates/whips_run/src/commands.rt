@@ -13,6 +13,8 @@ const LARGEST: u32 = 4_096;
 pub enum Command {
     /// To run the script that the input is, and to write its report.
     Run,
+    /// To read the script that the input is, and to write its canonical text.
+    Check,
     /// To make a script and to run it, and to write the summary of the run.
     Make {
         /// What the picking of updates and events starts from.
@@ -39,6 +41,7 @@ pub(crate) fn command_of(words: &[String]) -> Option<Command>
 {
     match words {
         [word] if word.as_str() == "run" => Some(Command::Run),
+        [word] if word.as_str() == "check" => Some(Command::Check),
         [word, start, size] if word.as_str() == "make" => {
             let start = start_of(start.as_str())?;
             let size = decimal_within(size.as_str(), 1, LARGEST)?;

@@ -2,6 +2,7 @@
 #![tactic(auto)]
 
 mod answers;
+mod checks;
 mod commands;
 mod made;
 mod runs;

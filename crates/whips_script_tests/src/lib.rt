@@ -1,14 +1,12 @@
-//! Tests alone: input and output, scripts that are read or refused, and whole runs on texts in memory.
+//! Tests alone: scripts that are read, checked or refused, and whole runs on texts in memory.
 #![tactic(auto)]
 
 #[cfg(test)]
-mod io;
+mod check;
 #[cfg(test)]
 mod made;
 #[cfg(test)]
 mod refusals;
-#[cfg(test)]
-mod report;
 #[cfg(test)]
 mod run;
 #[cfg(test)]

@@ -1,14 +1,15 @@
 //! A setup, and its making.
-ghost use Rattle.std.specs.Prelude.{◌≡◌, ◌≢◌, ◌<◌, ◌≤◌, ◌+◌, ◌^◌, true, false, length, slice_get, IfOk, IfErr, OnOk, None, Some, IfSome};
+ghost use Rattle.std.specs.Prelude.{◌≡◌, ◌≢◌, ◌<◌, ◌≤◌, ◌+◌, ◌^◌, ◌++◌, [], ◌∷◌, true, false, length, slice_get, IfOk, IfErr, OnOk, None, Some, IfSome};
 ghost use Rattle.std.specs.List.{AllByRecursion, list_all};
-ghost use Rattle.whips_view.specs.ViewDefs.{is_within, HasBases};
-ghost use Rattle.whips_setup.specs.Setups.{setup_of};
+ghost use Rattle.whips_view.specs.ViewDefs.{View, is_within, HasBases};
+ghost use Rattle.whips_setup.specs.Setups.{setup_of, view_value, view_values};
 ghost use Rattle.whips_setup.specs.Refusals.{slots_refusal, setup_refusal, IsSetup};
 
 use crate::SetupErr;
 use crate::limits::{are_sources_within, are_views_within};
+use std::alloc::Global;
 use std::marker::Model;
-use whips_rel::{NoMemory, Relation, Schema};
+use whips_rel::{NoMemory, Relation, Rows, Schema};
 use whips_view::{Db, ViewDef};
 
 /// The number of versions that stay readable, if none is said.
@@ -24,6 +25,7 @@ pub struct Setup {
     views: Vec<ViewDef>,
     slots: Vec<u32>,
     versions: u32,
+    values: Vec<Rows>,
 }
 
 impl Model for Setup {
@@ -31,6 +33,8 @@ impl Model for Setup {
 
     ghost Value = { SetupData };
 
+    ghost use Rattle.std.specs.Prelude.{◌≡◌};
+    ghost use Rattle.whips_setup.specs.Setups.{view_values};
     ghost use Rattle.whips_setup.specs.Refusals.{IsSetup};
 
     ghost view = { λ s. record {
@@ -49,7 +53,7 @@ impl Model for Setup {
       views = s.views.items;
       slots = s.slots.items;
       versions = s.versions;
-    }) };
+    }) × (s.values.items ≡ view_values s.initial s.views.items) };
 }
 
 impl Setup {
@@ -83,7 +87,8 @@ impl Setup {
             return Err(SetupErr::Limit);
         }
         let initial = Db::of(initial);
-        check_slots(0, &initial, &views, &slots)?;
+        let mut values = Vec::new(*views.allocator());
+        add_values(0, &initial, &views, &slots, &mut values)?;
         Ok(Setup {
             sources,
             homes,
@@ -91,6 +96,7 @@ impl Setup {
             views,
             slots,
             versions: VERSIONS,
+            values,
         })
     }
 
@@ -155,6 +161,15 @@ impl Setup {
         &self.views[x as usize]
     }
 
+    /// The rows of the view of this number on the initial relations.
+    pub fn value(&self, x: u32) -> &Rows
+        requires { x < length self.now.views }
+        ensures { (view : View) → slice_get self.now.views x ≡ Some view
+            → result.now ≡ view_value self.now.initial view }
+    {
+        &self.values[x as usize]
+    }
+
     /// The number of slots of the view of this number.
     pub fn slots(&self, x: u32) -> u32
         requires { x < length self.now.views }
@@ -185,6 +200,7 @@ impl Setup {
         for view in &self.views {
             views.push(view.copy()?)?;
         }
+        let values = copy_relations(*self.views.allocator(), &self.values)?;
         Ok(Setup {
             sources: self.sources,
             homes: Vec::from_slice(*self.homes.allocator(), &self.homes)?,
@@ -192,6 +208,7 @@ impl Setup {
             views,
             slots: Vec::from_slice(*self.slots.allocator(), &self.slots)?,
             versions: self.versions,
+            values,
         })
     }
 
@@ -214,19 +231,42 @@ impl Setup {
     pub(crate) fn initial_relations(&self) -> Result<Vec<Relation>, NoMemory>
         ensures { IfOk result (λ relations. relations.items ≡ self.now.initial) }
     {
-        let mut relations = Vec::with_capacity(*self.homes.allocator(), self.initial.len())?;
-        for relation in self.initial_rows() {
-            relations.push(relation.copy()?)?;
-        }
-        Ok(relations)
+        copy_relations(*self.homes.allocator(), self.initial_rows())
     }
 }
 
-/// That the initial value of each view, the first of which is number `x`, has no more rows than the view has slots.
-fn check_slots(x: u32, initial: &Db, views: &[ViewDef], slots: &[u32]) -> Result<(), SetupErr>
+/// The same relations again, shared.
+fn copy_relations(alloc: Global, relations: &[Relation]) -> Result<Vec<Relation>, NoMemory>
+    ensures { IfOk result (λ copies. copies.items ≡ relations.now) }
+{
+    let mut copies = Vec::with_capacity(alloc, relations.len())?;
+    for relation in relations {
+        copies.push(relation.copy()?)?;
+    }
+    Ok(copies)
+}
+
+/// Puts the rows at the end.
+fn add_value(values: &mut Vec<Rows>, rows: Rows) -> Result<(), NoMemory>
+    ensures { OnOk result (values.new.items ≡ values.old.items ++ rows ∷ []) }
+{
+    Ok(values.push(rows)?)
+}
+
+/// Puts the rows of each view on these relations at the end, where none has more of them than slots. The first view is
+/// number `x`.
+fn add_values(
+    x: u32,
+    initial: &Db,
+    views: &[ViewDef],
+    slots: &[u32],
+    values: &mut Vec<Rows>,
+) -> Result<(), SetupErr>
     requires numbers { x + length views.now < 2 ^ 32 }
     requires bases { AllByRecursion (λ view. HasBases view initial.now) views.now }
-    ensures ok { OnOk result (slots_refusal x initial.now views.now slots.now ≡ None) }
+    requires slots { length slots.now ≡ length views.now }
+    ensures ok { OnOk result ((slots_refusal x initial.now views.now slots.now ≡ None)
+        × (values.new.items ≡ values.old.items ++ view_values initial.now views.now)) }
     ensures refused { IfErr result (λ e. e ≢ SetupErr.NoMemory
         → slots_refusal x initial.now views.now slots.now ≡ Some e) }
 {
@@ -235,10 +275,12 @@ fn check_slots(x: u32, initial: &Db, views: &[ViewDef], slots: &[u32]) -> Result
         [view, views @ ..] => match slots {
             [] => Ok(()),
             [most, slots @ ..] => {
-                if view.value(initial)?.len() > *most as usize {
+                let rows = view.value(initial)?;
+                if rows.len() > *most as usize {
                     return Err(SetupErr::Slots(x));
                 }
-                check_slots(x + 1, initial, views, slots)
+                add_value(values, rows)?;
+                add_values(x + 1, initial, views, slots, values)
             }
         },
     }

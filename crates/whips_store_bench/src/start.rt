@@ -11,7 +11,7 @@ use whips_view::{ColRef, Conds, Equalities, Outs, ViewDef, ViewParts};
 
 /// The pairs of this many keys from 0 on, each with its key as its code, or with code 0.
 fn first_pairs(alloc: Global, count: u32, is_code: bool) -> Result<Relation, Stop> {
-    let mut pairs = Relation::new(alloc, pair_schema(alloc)?);
+    let mut pairs = Relation::new(alloc, pair_schema(alloc)?)?;
     for key in 0..count {
         let code = if is_code { 0 } else { u64::from(key) };
         put(alloc, &mut pairs, u64::from(key), code)?;

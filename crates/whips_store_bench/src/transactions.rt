@@ -63,7 +63,7 @@ fn rows_after(alloc: Global, before: &Rows, input: &Input) -> Result<(Rows, Vec<
     ensures net { IfOk result (λ p. p.1.items
         ≡ net_changes before.now.columns.key before.now.rows p.0.rows) }
 {
-    let mut draft = Draft::of(alloc, before)?;
+    let mut draft = Draft::of(before)?;
     change_rows(&mut draft, input)?;
     Ok(draft.finish(alloc)?)
 }

@@ -27,7 +27,7 @@ run_on-requires g c = λ κs lives. (
         lives.1.1.1,
         (
           starts c.args.setup c.args.sources.items (g.S.Store.state c.args.store) c.in_ok-core.core c.in_ok-core.ensures c.args.sink.now c.deref-2.result.now
-              (c.args.schedule.now.sessions, c.args.schedule.now.plan.now) (subst IsSetup c.setup.view_is c.setup.invariant) c.requires.fresh c.requires.store
+              (c.args.schedule.now.sessions, c.args.schedule.now.plan.now) (subst IsSetup c.setup.view_is c.setup.invariant.0) c.requires.fresh c.requires.store
               (c.deref-2.ensures.value ∙ (c.in_ok-counts.ensures ∙ ap (map (λ (z : LoadedSource). length z.site.left)) c.deref.ensures.value)),
           (refl, refl),
         ),

@@ -39,7 +39,7 @@ fn schemas(alloc: Global) -> Result<Vec<Schema>, NoMemory> {
 /// A relation with no row.
 fn relations(alloc: Global) -> Result<Vec<Relation>, NoMemory> {
     let mut relations = Vec::new(alloc);
-    relations.push(Relation::new(alloc, columns(alloc)?))?;
+    relations.push(Relation::new(alloc, columns(alloc)?)?)?;
     Ok(relations)
 }
 
@@ -84,7 +84,7 @@ fn put(alloc: Global, rows: &mut Relation, number: u64, code: u64) -> Result<(),
 
 /// Two rows.
 fn rows(alloc: Global) -> Result<Relation, NoMemory> {
-    let mut rows = Relation::new(alloc, columns(alloc)?);
+    let mut rows = Relation::new(alloc, columns(alloc)?)?;
     put(alloc, &mut rows, 7, 1)?;
     put(alloc, &mut rows, 3, 0)?;
     Ok(rows)
