@@ -9,4 +9,4 @@ pub mod Updated
 pub mod Sourced
 pub mod Made
 pub mod Scripted
-mod Printed
+pub mod Printed

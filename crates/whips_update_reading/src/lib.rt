@@ -7,4 +7,5 @@ mod target;
 mod update;
 
 pub use source::{Sources, read_sources};
+pub use target::{Change, Target};
 pub use update::{Scope, Work};

@@ -11,7 +11,7 @@ use whips_reading::{Code, Path, ReadErr, read_text, refuse};
 
 /// What an update does.
 #[derive(Clone, Copy, Debug, PartialEq, Eq)]
-pub(crate) enum Change {
+pub enum Change {
     /// It puts in a row.
     Insertion,
     /// It takes out a row.
@@ -20,11 +20,11 @@ pub(crate) enum Change {
 
 /// What an update does to which relation.
 #[derive(Clone, Copy, Debug, PartialEq, Eq)]
-pub(crate) struct Target {
+pub struct Target {
     /// What it does.
-    pub(crate) change: Change,
+    pub change: Change,
     /// The number of the relation.
-    pub(crate) relation: u32,
+    pub relation: u32,
 }
 
 /// What an update does.
