@@ -20,7 +20,7 @@ use Rattle.whips_relation_reading.specs.Relations.{RelationForm, relation_names,
 use Rattle.whips_script_laws.proofs.Parts.{bound, tested, member_read}
 use Rattle.whips_script_writing.specs.Objects.{list_data, text_list}
 use Rattle.whips_script_writing.specs.Relations.{columns_data, rows_data, relation_data}
-use Rattle.whips_canonical_laws.specs.Laws.{KnowsRows, KnowsRelation}
+use Rattle.whips_canonical_laws.specs.Known.{KnowsRows, KnowsRelation}
 use Rattle.whips_canonical_laws.proofs.Lists.{same_value}
 use Rattle.whips_canonical_laws.proofs.Values.{columns_written, key_written, fresh_written}
 use Rattle.whips_canonical_laws.proofs.Rows.{rows_again, rows_kept, elements_back}

@@ -31,7 +31,7 @@ use Rattle.whips_relation_reading.specs.Rows.{kind_at, value_added, values, row_
 use Rattle.whips_script_laws.proofs.Parts.{bound, tested, there_is}
 use Rattle.whips_script_writing.specs.Objects.{list_data}
 use Rattle.whips_script_writing.specs.Relations.{values_data, rows_data}
-use Rattle.whips_canonical_laws.specs.Laws.{KnowsEach, KnowsRows}
+use Rattle.whips_canonical_laws.specs.Known.{KnowsEach, KnowsRows}
 use Rattle.whips_canonical_laws.proofs.Lists.{listed_is, elements_listed}
 use Rattle.whips_canonical_laws.proofs.Values.{row_written}
 

@@ -22,7 +22,7 @@ use Rattle.whips_relation_reading.specs.Rows.{kind_at, value_added, values}
 use Rattle.whips_script_laws.proofs.Parts.{bound, tested, there_is}
 use Rattle.whips_script_writing.specs.Objects.{list_data, text_list}
 use Rattle.whips_script_writing.specs.Relations.{values_data, kind_text, columns_data}
-use Rattle.whips_canonical_laws.specs.Laws.{Knows, KnowsEach}
+use Rattle.whips_canonical_laws.specs.Known.{Knows, KnowsEach}
 use Rattle.whips_canonical_laws.proofs.Lists.{by_word, text_written, name_written, listed_is, listed_written, elements_listed, pair_written, list_made, all_plain}
 
 -- ---- values

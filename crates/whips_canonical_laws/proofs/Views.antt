@@ -28,7 +28,7 @@ use Rattle.whips_script_laws.proofs.Parts.{bound, tested, there_is}
 use Rattle.whips_script_laws.proofs.Appended.{each_append, found}
 use Rattle.whips_script_writing.specs.Objects.{list_data, text_list}
 use Rattle.whips_script_writing.specs.Views.{comparison_text, column_text, equality_data, condition_data}
-use Rattle.whips_canonical_laws.specs.Laws.{Knows, KnowsThird, KnowsConditions}
+use Rattle.whips_canonical_laws.specs.Known.{Knows, KnowsThird, KnowsConditions}
 use Rattle.whips_canonical_laws.proofs.Lists.{by_word, found_is, text_written, name_written, listed_is, listed_written, pair_written, triple_listed, list_made, all_plain}
 use Rattle.whips_canonical_laws.proofs.Values.{value_written, fresh_written, string_each}
 

@@ -23,7 +23,7 @@ use Rattle.whips_view_reading.specs.Views.{Basis, relations_in, are_keys_out, wi
 use Rattle.whips_script_laws.proofs.Parts.{bound, tested, member_read}
 use Rattle.whips_script_writing.specs.Objects.{number_data, list_data, text_list}
 use Rattle.whips_script_writing.specs.Views.{column_text, equality_data, condition_data, view_data}
-use Rattle.whips_canonical_laws.specs.Laws.{KnowsConditions, KnowsView}
+use Rattle.whips_canonical_laws.specs.Known.{KnowsConditions, KnowsView}
 use Rattle.whips_canonical_laws.proofs.Lists.{same_value}
 use Rattle.whips_canonical_laws.proofs.Values.{fresh_written}
 use Rattle.whips_canonical_laws.proofs.Schedules.{number_written}

@@ -1,8 +1,6 @@
 -- Laws: parts of a script that were read are written as the data that they were read from.
-use Rattle.std.specs.Prelude.{◌≡◌, ℕ, List, [], ◌∷◌, map, Option, Some, Ok}
-use Rattle.std.specs.List.{AllByRecursion}
+use Rattle.std.specs.Prelude.{◌≡◌, ℕ, List, [], ◌∷◌, map, Some, Ok}
 use Rattle.serde_json.specs.Data.{Data}
-use Rattle.serde_json.specs.Find.{get, as_str}
 use Rattle.whips_model.specs.declared.Kind.{Kind}
 use Rattle.whips_model.specs.declared.ColRef.{ColRef}
 use Rattle.whips_model.specs.declared.Cond.{Cond}
@@ -12,11 +10,9 @@ use Rattle.whips_setup.specs.declared.plan.Plan.TheVariants.{Picked}
 use Rattle.whips_view.specs.ViewDefs.{View}
 use Rattle.whips_facts.specs.Scripts.{Labels}
 use Rattle.whips_reports.specs.Lines.{name_at, value_data}
-use Rattle.whips_reading.specs.declared.place.Member.TheVariants as member
 use Rattle.whips_reading.specs.Json.{Text}
-use Rattle.whips_reading.specs.Places.{Place, member_name}
-use Rattle.whips_reading.specs.Reading.{elements_of, number_within}
-use Rattle.whips_texts.specs.Texts.{rank}
+use Rattle.whips_reading.specs.Places.{Place}
+use Rattle.whips_reading.specs.Reading.{number_within}
 use Rattle.whips_texts.specs.Values.{value_in}
 use Rattle.whips_relation_reading.specs.Columns.{NamedColumns, columns_in, key_in}
 use Rattle.whips_relation_reading.specs.Rows.{values, rows_in}
@@ -30,33 +26,7 @@ use Rattle.whips_script_writing.specs.Objects.{number_data, list_data, text_list
 use Rattle.whips_script_writing.specs.Relations.{values_data, rows_data, columns_data, relation_data}
 use Rattle.whips_script_writing.specs.Scripts.{picked_data}
 use Rattle.whips_script_writing.specs.Views.{column_text, equality_data, condition_data, view_data}
-
--- Where the value is a text, the text with its code is the text again: it is one of these.
-abbrev pub Knows : List Text → Data → Type 0
-Knows texts d = (t : Text) → as_str d ≡ Some t → t ≡ name_at texts (rank texts t)
-
--- So it is of the elements of a list,
-abbrev pub KnowsEach : List Text → Data → Type 0
-KnowsEach texts d = (ds : List Data) → elements_of d ≡ Some ds → AllByRecursion (Knows texts) ds
-
--- of each list of a list,
-abbrev pub KnowsRows : List Text → Data → Type 0
-KnowsRows texts d = (ds : List Data) → elements_of d ≡ Some ds → AllByRecursion (KnowsEach texts) ds
-
--- and of the rows of a relation, where it has any,
-abbrev pub KnowsRelation : List Text → Data → Type 0
-KnowsRelation texts d = (rows : Data) → get (member_name member.Rows) d ≡ Some rows → KnowsRows texts rows
-
--- and of the constants of conditions, which stand third.
-abbrev pub KnowsThird : List Text → Option (List Data) → Type 0
-KnowsThird texts (Some (column ∷ comparison ∷ value ∷ [])) = Knows texts value
-KnowsThird texts _ = Unit {0}
-
-abbrev pub KnowsConditions : List Text → Data → Type 0
-KnowsConditions texts d = (ds : List Data) → elements_of d ≡ Some ds → AllByRecursion (λ c. KnowsThird texts (elements_of c)) ds
-
-abbrev pub KnowsView : List Text → Data → Type 0
-KnowsView texts d = (conds : Data) → get (member_name member.Where) d ≡ Some conds → KnowsConditions texts conds
+use Rattle.whips_canonical_laws.specs.Known.{Knows, KnowsEach, KnowsRows, KnowsRelation, KnowsConditions, KnowsView}
 
 -- ---- values
 
