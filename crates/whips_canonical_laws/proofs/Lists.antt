@@ -12,7 +12,7 @@ use Rattle.whips_reports.specs.Lines.{name_at}
 use Rattle.whips_reading.specs.declared.place.Code.TheVariants.{Shape, Limit, Name}
 use Rattle.whips_reading.specs.Json.{Text, list_of}
 use Rattle.whips_reading.specs.Places.{Place, in_element}
-use Rattle.whips_reading.specs.Reading.{Read, ◌>>=◌, elements_of, listed, elements, pair_of, triple_of, pair, triple, in_turn}
+use Rattle.whips_reading.specs.Reading.{Read, ◌>>=◌, ◌>>◌, check, elements_of, listed, elements, pair_of, triple_of, pair, triple, in_turn}
 use Rattle.whips_reading.specs.Names.{place_of, text_in, named}
 use Rattle.whips_script_laws.proofs.Parts.{bound, tested, there_is}
 use Rattle.whips_script_writing.specs.Objects.{list_data}
@@ -64,6 +64,9 @@ name_written names place d i e =
 
 -- ---- lists
 
+pub same_value : {A : Type 0} (x y : A) → (let r : Read A = Ok x in r) ≡ Ok y → x ≡ y
+same_value x y e = cc
+
 items_again : (ds : Items) → items_of (list_of ds) ≡ ds
 items_again no_items = refl
 items_again (item d ds) = ap (item d) (items_again ds)
@@ -75,6 +78,10 @@ elements_again (number n) ds e = absurd (cc)
 elements_again (string s) ds e = absurd (cc)
 elements_again (array items) ds e = let same : list_of items ≡ ds = cc in ap array (ap items_of (sym same) ∙ items_again items)
 elements_again (object ms) ds e = absurd (cc)
+
+pub listed_again : (ds : List Data) → list_of (items_of ds) ≡ ds
+listed_again [] = refl
+listed_again (d ∷ ds) = ap (λ xs. d ∷ xs) (listed_again ds)
 
 pub listed_is : (place : Place) (d : Data) (ds : List Data) → listed place d ≡ Ok ds → elements_of d ≡ Some ds
 listed_is place d ds e = there_is (elements_of d) Shape place ds e
@@ -90,12 +97,23 @@ elements_listed least most place d ds e =
     let same : b.0 ≡ ds = cc in
     b.1 ∙ ap Ok same
 
+-- a list of as many elements as one that was read
+pub elements_alike : (least most : ℕ) (place : Place) (d : Data) (ds es : List Data) → elements least most place d ≡ Ok ds → length es ≡ length ds → elements least most place (list_data es) ≡ Ok es
+elements_alike least most place d ds es e n =
+    let b = bound (listed place d) _ ds e in
+    let low = tested (nat_le least (length b.0)) Shape place _ ds b.2 in
+    let high = tested (nat_le (length b.0) most) Limit place _ ds low.1 in
+    let same : b.0 ≡ ds = same_value _ _ high.1 in
+    let count : length b.0 ≡ length es = ap length same ∙ sym n in
+    let enough : nat_le least (length es) ≡ true = ap (nat_le least) (sym count) ∙ low.0 in
+    let few : nat_le (length es) most ≡ true = ap (λ k. nat_le k most) (sym count) ∙ high.0 in
+    ap (λ xs. check (nat_le least (length xs)) Shape place >> (check (nat_le (length xs) most) Limit place >> Ok xs)) (listed_again es)
+    ∙ ap (λ c. check c Shape place >> (check (nat_le (length es) most) Limit place >> Ok es)) enough
+    ∙ ap (λ c. check c Limit place >> Ok es) few
+
 -- what was read is one thing
 one_value : {A : Type 0} (r : Read A) (x y : A) → r ≡ Ok x → r ≡ Ok y → x ≡ y
 one_value r x y e f = cc
-
-pub same_value : {A : Type 0} (x y : A) → (let r : Read A = Ok x in r) ≡ Ok y → x ≡ y
-same_value x y e = cc
 
 pub pair_written : (place : Place) (d a b : Data) → pair place d ≡ Ok (a, b) → list_data (a ∷ b ∷ []) ≡ d
 pair_written place d a b e = let l = bound (listed place d) (pair_of place) (a, b) e in go l.0 l.1 l.2

@@ -12,7 +12,6 @@ use Rattle.std.specs.declared.cmp.Ordering.TheVariants.{Less, Equal, Greater}
 use Rattle.std.proofs.lemmas.Bool.Decides.{nat_tests}
 use Rattle.std.proofs.lemmas.List.{length-map}
 use Rattle.serde_json.specs.Data.{Data}
-use Rattle.serde_json.specs.View.{items_of}
 use Rattle.whips_lists.specs.Members.{Has}
 use Rattle.whips_choices.proofs.Rows.{put_only}
 use Rattle.whips_model.specs.declared.Kind.{Kind}
@@ -22,7 +21,7 @@ use Rattle.whips_model.specs.Relation.{Table}
 use Rattle.whips_model.proofs.Keyed.{keyed_put, greater_from_less}
 use Rattle.whips_facts.specs.Scripts.{Labels}
 use Rattle.whips_reading.specs.declared.place.Code.TheVariants.{Shape, Limit, Key, Value}
-use Rattle.whips_reading.specs.Json.{Text, list_of}
+use Rattle.whips_reading.specs.Json.{Text}
 use Rattle.whips_reading.specs.Places.{Place, in_element}
 use Rattle.whips_reading.specs.Reading.{Read, ◌>>=◌, ◌>>◌, check, there, listed, elements, in_turn}
 use Rattle.whips_texts.specs.Texts.{rank}
@@ -32,7 +31,7 @@ use Rattle.whips_script_laws.proofs.Parts.{bound, tested, there_is}
 use Rattle.whips_script_writing.specs.Objects.{list_data}
 use Rattle.whips_script_writing.specs.Relations.{values_data, rows_data}
 use Rattle.whips_canonical_laws.specs.Known.{KnowsEach, KnowsRows}
-use Rattle.whips_canonical_laws.proofs.Lists.{listed_is, elements_listed}
+use Rattle.whips_canonical_laws.proofs.Lists.{listed_again, listed_is, elements_listed}
 use Rattle.whips_canonical_laws.proofs.Values.{row_written}
 
 -- ---- what was read at one place is read at each
@@ -154,16 +153,12 @@ module _ (l : Labels) (columns : Columns) where
 
 -- ---- the list
 
-list_again : (ds : List Data) → list_of (items_of ds) ≡ ds
-list_again [] = refl
-list_again (d ∷ ds) = ap (λ xs. d ∷ xs) (list_again ds)
-
 -- a list with few elements is read as they are
 pub elements_back : (most : ℕ) (place : Place) (ds : List Data) → length ds ≤ most → elements 0 most place (list_data ds) ≡ Ok ds
 elements_back most place ds few =
     let fits : nat_le (length ds) most ≡ true = grind (arith, nat_tests, few) in
     let some : nat_le 0 (length ds) ≡ true = grind (arith, nat_tests) in
-    ap (λ xs. check (nat_le 0 (length xs)) Shape place >> (check (nat_le (length xs) most) Limit place >> Ok xs)) (list_again ds)
+    ap (λ xs. check (nat_le 0 (length xs)) Shape place >> (check (nat_le (length xs) most) Limit place >> Ok xs)) (listed_again ds)
     ∙ ap (λ c. check c Shape place >> (check (nat_le (length ds) most) Limit place >> Ok ds)) some
     ∙ ap (λ c. check c Limit place >> Ok ds) fits
 

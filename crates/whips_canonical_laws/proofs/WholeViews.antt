@@ -30,7 +30,7 @@ use Rattle.whips_canonical_laws.proofs.Schedules.{number_written}
 use Rattle.whips_canonical_laws.proofs.Views.{view_relations_written, equalities_written, conditions_written, out_written}
 
 -- a list that may be left out, and then is none
-list_again : {X : Type 0} (reading : Data → Read (List X)) (data_of : X → Data) (xs : List X) (o : Option Data) → reading (list_data []) ≡ Ok [] → ((e : Data) → o ≡ Some e → reading e ≡ Ok xs → list_data (map data_of xs) ≡ e) → read_or [] reading o ≡ Ok xs → reading (list_data (map data_of xs)) ≡ Ok xs
+pub list_again : {X : Type 0} (reading : Data → Read (List X)) (data_of : X → Data) (xs : List X) (o : Option Data) → reading (list_data []) ≡ Ok [] → ((e : Data) → o ≡ Some e → reading e ≡ Ok xs → list_data (map data_of xs) ≡ e) → read_or [] reading o ≡ Ok xs → reading (list_data (map data_of xs)) ≡ Ok xs
 list_again reading data_of xs None none written e = let same : [] ≡ xs = cc in subst (λ ys. reading (list_data (map data_of ys)) ≡ Ok ys) same none
 list_again reading data_of xs (Some d) none written e = ap reading (written d refl e) ∙ e
 

@@ -3,4 +3,4 @@ pub mod Changed
 pub mod Started
 pub mod Carried
 pub mod Orders
-pub mod Passed
+pub mod Tested

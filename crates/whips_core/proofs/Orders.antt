@@ -1,14 +1,19 @@
--- Lists that are built by one turn for each place.
-use Rattle.std.proofs.Common.{◌≡◌, ℕ, zero, suc, ◌+◌, ◌<◌, Bool, true, false, cond, List, [], ◌∷◌, ◌++◌, length, take, Some, None, append-nil, append_assoc, refl, sym, ap, ◌∙◌, arith}
-use Rattle.std.specs.Prelude.{map, find, slice_index_or}
+-- Groups of events, built by one turn for each place.
+use Rattle.std.proofs.Common.{◌≡◌, ℕ, suc, ◌+◌, List, [], ◌∷◌, ◌++◌, length, map, append_assoc, append-nil, refl, sym, ap, ap₂, ◌∙◌, arith}
 use Rattle.std.specs.List.{flat_map}
 use Rattle.std.proofs.lemmas.List.{map-append}
 use Rattle.std.proofs.lemmas.Grind.{flat_map-append}
 use Rattle.whips_lists.specs.Lists.{places_from}
 use Rattle.whips_lists.proofs.Places.{places_next}
+use Rattle.whips_flow.specs.Facts.{Facts}
+use Rattle.whips_flow.specs.Progress.{pipeline_events}
+use Rattle.whips_flow.specs.declared.event.Event.TheVariants.{Commit, Answer, Integrate, Manage, Rel, Act, Begin, Change, Publish}
+use Rattle.whips_core.specs.Groups.{group_events, events_of, answers_of, group_of, first_groups}
+use Rattle.whips_core.specs.declared.order.EventKind.TheVariants as kind
+use Rattle.whips_core.specs.declared.order.EventGroup.{EventGroup}
 
 -- the places below one number more
-places_then : (n : ℕ) → places_from 0 (n + 1) ≡ places_from 0 n ++ n ∷ []
+pub places_then : (n : ℕ) → places_from 0 (n + 1) ≡ places_from 0 n ++ n ∷ []
 places_then n = let e : n + 1 ≡ suc n = omega arith in ap (places_from 0) e ∙ places_next n
 
 -- one element more
@@ -17,37 +22,30 @@ mapped_next g before now new n h e =
     e ∙ (ap (λ l. l ++ g n ∷ []) h ∙ (append_assoc before (map g (places_from 0 n)) (g n ∷ [])
     ∙ ap (λ l. before ++ l) (sym (ap (map g) (places_then n) ∙ map-append g (places_from 0 n) (n ∷ [])))))
 
--- one list more
-pub joined_next : {A : Type 0} (g : ℕ → List A) (before now new : List A) (n : ℕ) → now ≡ before ++ flat_map g (places_from 0 n) → new ≡ now ++ g n → new ≡ before ++ flat_map g (places_from 0 (n + 1))
-joined_next g before now new n h e =
-    e ∙ (ap (λ l. l ++ g n) h ∙ (append_assoc before (flat_map g (places_from 0 n)) (g n)
-    ∙ ap (λ l. before ++ l) (sym (ap (flat_map g) (places_then n) ∙ flat_map-append g (places_from 0 n) (n ∷ []) ∙ ap (λ l. flat_map g (places_from 0 n) ++ l) (append-nil (g n))))))
+-- the events of the answers of sources
+pub answers_are : (views : ℕ) (ys : List ℕ) → events_of (map (answers_of views) ys) ≡ flat_map (λ y. map (Answer y) (places_from 0 views)) ys
+answers_are views [] = refl
+answers_are views (y ∷ ys) = ap (λ l. map (Answer y) (places_from 0 views) ++ l) (answers_are views ys)
 
--- ---- the first that passes
+pub events_join : (gs hs : List EventGroup) → events_of (gs ++ hs) ≡ events_of gs ++ events_of hs
+events_join gs hs = flat_map-append group_events gs hs
 
-module _ {A : Type 0} (test : A → Bool) where
-  none_later : (x : A) (xs : List A) → find test (x ∷ xs) ≡ None → (test x ≡ false) × (find test xs ≡ None)
-  none_later x xs h = go (test x) refl h
-    where
-      go : (b : Bool) → test x ≡ b → cond b (Some x) (find test xs) ≡ None → (test x ≡ false) × (find test xs ≡ None)
-      go true e h = absurd (cc)
-      go false e h = (e, h)
+-- the groups of so many views and sources are the events of a pipeline with as many
+abbrev pub all_groups : (views sources : ℕ) → List EventGroup
+all_groups views sources = (first_groups views sources ++ map (answers_of views) (places_from 0 sources)) ++ group_of kind.Commit sources ∷ []
 
-  -- where none of those before passes, the one here is the first
-  pub found_here : (xs : List A) (i : ℕ) (d : A) → i < length xs → find test (take i xs) ≡ None → test (slice_index_or xs i d) ≡ true → Some (slice_index_or xs i d) ≡ find test xs
-  found_here [] i d lt none passes = absurd (omega (arith, lt))
-  found_here (x ∷ xs) zero d lt none passes = sym (ap (λ b. cond b (Some x) (find test xs)) passes)
-  found_here (x ∷ xs) (suc i) d lt none passes =
-      let rest = none_later x (take i xs) none in
-      found_here xs i d (omega (arith, lt)) rest.1 passes ∙ sym (ap (λ b. cond b (Some x) (find test xs)) rest.0)
-
-  none_after : (xs : List A) (i : ℕ) (d : A) → i < length xs → find test (take i xs) ≡ None → test (slice_index_or xs i d) ≡ false → find test (take (suc i) xs) ≡ None
-  none_after [] i d lt none fails = absurd (omega (arith, lt))
-  none_after (x ∷ xs) zero d lt none fails = ap (λ b. cond b (Some x) None) fails
-  none_after (x ∷ xs) (suc i) d lt none fails =
-      let rest = none_later x (take i xs) none in
-      ap (λ b. cond b (Some x) (find test (take (suc i) xs))) rest.0 ∙ none_after xs i d (omega (arith, lt)) rest.1 fails
-
-  -- nor does the one here
-  pub none_here : (xs : List A) (i : ℕ) (d : A) → i < length xs → find test (take i xs) ≡ None → test (slice_index_or xs i d) ≡ false → find test (take (i + 1) xs) ≡ None
-  none_here xs i d lt none fails = let e : i + 1 ≡ suc i = omega arith in ap (λ n. find test (take n xs)) e ∙ none_after xs i d lt none fails
+pub groups_are : (f : Facts) → events_of (all_groups (length f.slots) (length f.transactions)) ≡ pipeline_events f
+groups_are f =
+    let views = length f.slots in
+    let sources = length f.transactions in
+    let answers = map (answers_of views) (places_from 0 sources) in
+    let acts = map Act (places_from 0 views) in
+    let manages = map Manage (places_from 0 views) in
+    let integrates = map Integrate (places_from 0 sources) in
+    let commits = map Commit (places_from 0 sources) in
+    events_join (first_groups views sources ++ answers) (group_of kind.Commit sources ∷ [])
+    ∙ ap₂ (λ a b. a ++ b) (events_join (first_groups views sources) answers) (append-nil commits)
+    ∙ ap (λ a. (events_of (first_groups views sources) ++ a) ++ commits) (answers_are views (places_from 0 sources))
+    ∙ ap (λ a. (a ++ flat_map (λ y. map (Answer y) (places_from 0 views)) (places_from 0 sources)) ++ commits)
+    (ap (λ a. Publish ∷ Change ∷ Begin ∷ (acts ++ Rel ∷ (manages ++ a))) (append-nil integrates)
+    ∙ ap (λ a. Publish ∷ Change ∷ Begin ∷ a) (sym (append_assoc acts (Rel ∷ manages) integrates)))

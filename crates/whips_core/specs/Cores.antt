@@ -1,5 +1,5 @@
 -- A core as its callers see it, and what its type keeps.
-use Rattle.std.specs.Prelude.{◌≡◌, Bool, List, length}
+use Rattle.std.specs.Prelude.{◌≡◌, ◌≤◌, Bool, List, length}
 use Rattle.whips_states.specs.States.{Updates}
 use Rattle.whips_flow.specs.declared.event.Event.{Event}
 use Rattle.whips_flow.specs.declared.event.Event.TheVariants.{Publish}
@@ -15,6 +15,8 @@ use Rattle.whips_facts.specs.ScriptFacts.{facts_of}
 use Rattle.whips_order.specs.Numbering.{Counts, counts_of}
 use Rattle.whips_contents.specs.Contents.{LoadedSource, LoadedPipeline, new_loaded_source}
 use Rattle.whips_core_laws.specs.Core.{loaded_after, Carries}
+use Rattle.whips_core.specs.Groups.{events_of}
+use Rattle.whips_core.specs.declared.order.EventGroup.{EventGroup}
 use Rattle.whips_core.specs.declared.cores.CoreStep.{CoreStep}
 use Rattle.whips_core.specs.declared.cores.CoreStep.TheVariants.{Did, Published}
 
@@ -50,9 +52,10 @@ pub record IsRun (s : SetupData) (l : LoadedPipeline) : Type 0 where
   pub is : l ≡ loaded_after (script_with s work) events
   pub carries : Carries (script_with s work) l (after (facts_of (script_with s work)) (start (facts_of (script_with s work))) events)
 
--- The events are those of a pipeline with the setup's views and sources, in the order of the drain.
-pub record AreInOrder (s : SetupData) (events : List Event) : Type 0 where
-  pub are : (f : Facts) → length f.slots ≡ length s.views → length f.transactions ≡ s.sources → events ≡ pipeline_events f
+-- The events of these groups are those of a pipeline with the setup's views and sources, in the order of the drain.
+pub record AreInOrder (s : SetupData) (groups : List EventGroup) : Type 0 where
+  pub are : (f : Facts) → length f.slots ≡ length s.views → length f.transactions ≡ s.sources → events_of groups ≡ pipeline_events f
+  pub few : length groups ≤ 4096
 
 -- What the type keeps of a core that isn't stopped: it carries some list of events, and its integrator has the counts of its numbering.
 pub record IsCore (s : SetupData) (l : LoadedPipeline) (counts : Counts) : Type 0 where

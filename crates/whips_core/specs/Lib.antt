@@ -1,3 +1,4 @@
+pub mod Groups
 pub mod Queues
 pub mod Pipelines
 pub mod Cores

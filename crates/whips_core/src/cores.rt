@@ -10,7 +10,7 @@ ghost use Rattle.whips_core.specs.Pipelines.{started};
 ghost use Rattle.whips_core.specs.Cores.{AreFresh, IsRun, done_by};
 ghost use Rattle.whips_core.specs.declared.cores.CoreStep.TheVariants.{Skipped};
 
-use crate::order::{count_of, events_of, first_of, nth_of};
+use crate::order::{EventGroup, count_of, first_of, groups_of, nth_of};
 use crate::pipeline::Pipeline;
 use crate::queues::SourceQueues;
 use std::alloc::Global;
@@ -40,7 +40,7 @@ pub struct Core<T: Site, S: Store> {
     setup: Setup,
     integrator: Integrator,
     pipeline: Pipeline<T, S>,
-    events: Vec<Event>,
+    groups: Vec<EventGroup>,
     is_stopped: bool,
 }
 
@@ -53,7 +53,7 @@ impl<T: Site, S: Store> Model for Core<T, S> {
     ghost view = { λ c. record { setup = c.setup; loaded = c.pipeline; stopped = c.is_stopped } };
 
     ghost invariant = { λ c. (c.is_stopped ≡ false → IsCore c.setup c.pipeline c.integrator)
-        × AreInOrder c.setup c.events.items };
+        × AreInOrder c.setup c.groups.items };
 }
 
 impl<T: Site, S: Store> Core<T, S> {
@@ -240,7 +240,7 @@ impl<T: Site, S: Store> Core<T, S> {
             → length f.transactions ≡ self.now.setup.sources
             → result ≡ find (is_enabled_loaded self.now.loaded) (pipeline_events f) }
     {
-        first_of(&self.pipeline, &self.events)
+        first_of(&self.pipeline, &self.groups)
     }
 
     /// How many events can be done.
@@ -249,7 +249,7 @@ impl<T: Site, S: Store> Core<T, S> {
             → length f.transactions ≡ self.now.setup.sources
             → result ≡ length (filter (is_enabled_loaded self.now.loaded) (pipeline_events f)) }
     {
-        count_of(&self.pipeline, &self.events)
+        count_of(&self.pipeline, &self.groups)
     }
 
     /// The event at this place, from 0, among those that can be done, in the order of `first`.
@@ -258,7 +258,7 @@ impl<T: Site, S: Store> Core<T, S> {
             → length f.transactions ≡ self.now.setup.sources → result
             ≡ slice_get (filter (is_enabled_loaded self.now.loaded) (pipeline_events f)) place }
     {
-        nth_of(&self.pipeline, &self.events, place)
+        nth_of(&self.pipeline, &self.groups, place)
     }
 
     /// Does the event, where it can be done; otherwise nothing changes. `Full` comes exactly where the event is a begin
@@ -355,13 +355,13 @@ impl<T: Site + Drop, S: Store + Drop> Core<T, S> {
         let integrator = Integrator::new(alloc, &setup)?;
         let _sound = setup.sources();
         let pipeline = Pipeline::new(alloc, &setup, sources, store)?;
-        let events = events_of(alloc, setup.views(), setup.sources())?;
+        let groups = groups_of(alloc, setup.views(), setup.sources())?;
         Ok(Core {
             alloc,
             setup,
             integrator,
             pipeline,
-            events,
+            groups,
             is_stopped: false,
         })
     }

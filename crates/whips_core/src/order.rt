@@ -1,11 +1,10 @@
-//! The events of the pipeline, in the order in which the drain looks for one that can be done.
-ghost use Rattle.std.specs.Prelude.{◌≡◌, ◌++◌, map, find, filter, slice_get, length, IfOk, OnOk};
-ghost use Rattle.std.specs.List.{flat_map};
+//! The events of the pipeline by groups of one kind, in the order in which the drain looks for one that can be done.
+ghost use Rattle.std.specs.Prelude.{◌≡◌, ◌+◌, ◌≤◌, ◌++◌, map, find, filter, slice_get, length, IfOk, OnOk, Some, MatchResult};
 ghost use Rattle.whips_lists.specs.Lists.{places_from};
 ghost use Rattle.whips_flow.specs.Facts.{Facts};
 ghost use Rattle.whips_flow.specs.Progress.{pipeline_events};
-ghost use Rattle.whips_flow.specs.declared.event.Event.TheVariants.{Commit, Answer, Integrate, Manage, Act};
 ghost use Rattle.whips_contents.specs.Events.{is_enabled_loaded};
+ghost use Rattle.whips_core.specs.Groups.{event_of, group_events, events_of, answers_of, first_groups};
 
 use crate::pipeline::Pipeline;
 use std::alloc::Global;
@@ -14,132 +13,198 @@ use whips_rel::NoMemory;
 use whips_source::Site;
 use whips_store::Store;
 
-/// Puts the acts of so many views behind the events.
-fn push_acts(events: &mut Vec<Event>, views: u32) -> Result<(), NoMemory>
-    ensures { OnOk result (events.new.items ≡ events.old.items ++ map Act (places_from 0 views)) }
-{
-    for x in 0..views {
-        events.push(Event::Act(x))?;
-    }
-    Ok(())
+/// A kind of events of the pipeline.
+#[derive(Clone, Copy, Debug, PartialEq, Eq)]
+pub(crate) enum EventKind {
+    /// The writer commits.
+    Publish,
+    /// The writer changes a row.
+    Change,
+    /// The writer begins.
+    Begin,
+    /// The merge takes a list of a view's manager.
+    Act,
+    /// The merge takes an announced transaction.
+    Rel,
+    /// A view's manager takes a message.
+    Manage,
+    /// The integrator takes a message of a source.
+    Integrate,
+    /// This source answers an ask of a view.
+    Answer(u32),
+    /// A source makes a transaction.
+    Commit,
 }
 
-/// Puts the steps of the managers of so many views behind the events.
-fn push_manages(events: &mut Vec<Event>, views: u32) -> Result<(), NoMemory>
-    ensures { OnOk result (events.new.items ≡ events.old.items ++ map Manage (places_from 0 views)) }
-{
-    for x in 0..views {
-        events.push(Event::Manage(x))?;
-    }
-    Ok(())
+/// Events of one kind, one for each place below a number: for each view, for each source, or one alone.
+#[derive(Clone, Copy, Debug, PartialEq, Eq)]
+pub(crate) struct EventGroup {
+    /// Their kind.
+    pub(crate) kind: EventKind,
+    /// How many there are.
+    pub(crate) count: u32,
 }
 
-/// Puts the steps of the integrator for so many sources behind the events.
-fn push_integrates(events: &mut Vec<Event>, sources: u32) -> Result<(), NoMemory>
-    ensures { OnOk result (events.new.items
-        ≡ events.old.items ++ map Integrate (places_from 0 sources)) }
+/// Events of this kind for so many places.
+fn group(kind: EventKind, count: u32) -> EventGroup
+    ensures { result ≡ record { kind = kind; count = count } }
+{
+    EventGroup { kind, count }
+}
+
+/// Puts the answers of so many sources to so many views behind the groups.
+fn push_answers(groups: &mut Vec<EventGroup>, sources: u32, views: u32) -> Result<(), NoMemory>
+    ensures { OnOk result (groups.new.items
+        ≡ groups.old.items ++ map (answers_of views) (places_from 0 sources)) }
 {
     for y in 0..sources {
-        events.push(Event::Integrate(y))?;
+        groups.push(group(EventKind::Answer(y), views))?;
     }
     Ok(())
 }
 
-/// Puts the answers of one source to so many views behind the events.
-fn push_answers_of(events: &mut Vec<Event>, y: u32, views: u32) -> Result<(), NoMemory>
-    ensures { OnOk result (events.new.items
-        ≡ events.old.items ++ map (Answer y) (places_from 0 views)) }
+/// The groups before the answers of sources.
+fn first_groups(alloc: Global, views: u32, sources: u32) -> Result<Vec<EventGroup>, NoMemory>
+    ensures { IfOk result (λ groups. groups.items ≡ first_groups views sources) }
 {
-    for x in 0..views {
-        events.push(Event::Answer(y, x))?;
-    }
-    Ok(())
-}
-
-/// Puts the answers of so many sources to so many views behind the events.
-fn push_answers(events: &mut Vec<Event>, sources: u32, views: u32) -> Result<(), NoMemory>
-    ensures { OnOk result (events.new.items ≡ events.old.items
-        ++ flat_map (λ y. map (Answer y) (places_from 0 views)) (places_from 0 sources)) }
-{
-    for y in 0..sources {
-        push_answers_of(events, y, views)?;
-    }
-    Ok(())
-}
-
-/// Puts the commits of so many sources behind the events.
-fn push_commits(events: &mut Vec<Event>, sources: u32) -> Result<(), NoMemory>
-    ensures { OnOk result (events.new.items
-        ≡ events.old.items ++ map Commit (places_from 0 sources)) }
-{
-    for y in 0..sources {
-        events.push(Event::Commit(y))?;
-    }
-    Ok(())
+    let mut groups = Vec::new(alloc);
+    groups.push(group(EventKind::Publish, 1))?;
+    groups.push(group(EventKind::Change, 1))?;
+    groups.push(group(EventKind::Begin, 1))?;
+    groups.push(group(EventKind::Act, views))?;
+    groups.push(group(EventKind::Rel, 1))?;
+    groups.push(group(EventKind::Manage, views))?;
+    groups.push(group(EventKind::Integrate, sources))?;
+    Ok(groups)
 }
 
 /// The events of a pipeline with so many views and sources, in the order in which the drain looks for one that can
 /// be done.
-pub(crate) fn events_of(alloc: Global, views: u32, sources: u32) -> Result<Vec<Event>, NoMemory>
-    ensures { IfOk result (λ events. (f : Facts) → length f.slots ≡ views
-        → length f.transactions ≡ sources → events.items ≡ pipeline_events f) }
+pub(crate) fn groups_of(
+    alloc: Global,
+    views: u32,
+    sources: u32,
+) -> Result<Vec<EventGroup>, NoMemory>
+    requires { sources ≤ 8 }
+    ensures events { IfOk result (λ groups. (f : Facts) → length f.slots ≡ views
+        → length f.transactions ≡ sources → events_of groups.items ≡ pipeline_events f) }
+    ensures few { IfOk result (λ groups. length groups.items ≤ 4096) }
 {
-    let mut events = Vec::new(alloc);
-    events.push(Event::Publish)?;
-    events.push(Event::Change)?;
-    events.push(Event::Begin)?;
-    push_acts(&mut events, views)?;
-    events.push(Event::Rel)?;
-    push_manages(&mut events, views)?;
-    push_integrates(&mut events, sources)?;
-    push_answers(&mut events, sources, views)?;
-    push_commits(&mut events, sources)?;
-    Ok(events)
+    let mut groups = first_groups(alloc, views, sources)?;
+    push_answers(&mut groups, sources, views)?;
+    groups.push(group(EventKind::Commit, sources))?;
+    Ok(groups)
 }
 
-/// The first of the events that can be done.
-pub(crate) fn first_of<T: Site, S: Store>(
-    pipeline: &Pipeline<T, S>,
-    events: &[Event],
-) -> Option<Event>
-    ensures { result ≡ find (is_enabled_loaded pipeline.now) events.now }
+/// The event of this kind at a place.
+fn event_of(kind: EventKind, i: u32) -> Event
+    ensures { result ≡ event_of kind i }
 {
-    for e in events {
-        if pipeline.enabled(e) {
-            return Some(*e);
+    match kind {
+        EventKind::Publish => Event::Publish,
+        EventKind::Change => Event::Change,
+        EventKind::Begin => Event::Begin,
+        EventKind::Act => Event::Act(i),
+        EventKind::Rel => Event::Rel,
+        EventKind::Manage => Event::Manage(i),
+        EventKind::Integrate => Event::Integrate(i),
+        EventKind::Answer(y) => Event::Answer(y, i),
+        EventKind::Commit => Event::Commit(i),
+    }
+}
+
+/// The first event of the group that can be done.
+fn first_in<T: Site, S: Store>(pipeline: &Pipeline<T, S>, group: EventGroup) -> Option<Event>
+    ensures { result ≡ find (is_enabled_loaded pipeline.now) (group_events group) }
+{
+    for i in 0..group.count {
+        if pipeline.enabled_at(group.kind, i) {
+            return Some(event_of(group.kind, i));
         }
     }
     None
 }
 
-/// How many of the events can be done.
-pub(crate) fn count_of<T: Site, S: Store>(pipeline: &Pipeline<T, S>, events: &[Event]) -> usize
-    ensures { result ≡ length (filter (is_enabled_loaded pipeline.now) events.now) }
+/// The first of the events that can be done.
+pub(crate) fn first_of<T: Site, S: Store>(
+    pipeline: &Pipeline<T, S>,
+    groups: &[EventGroup],
+) -> Option<Event>
+    ensures { result ≡ find (is_enabled_loaded pipeline.now) (events_of groups.now) }
+{
+    for group in groups {
+        if let Some(e) = first_in(pipeline, *group) {
+            return Some(e);
+        }
+    }
+    None
+}
+
+/// How many events of the group can be done.
+fn count_in<T: Site, S: Store>(pipeline: &Pipeline<T, S>, group: EventGroup) -> usize
+    ensures count { result
+        ≡ length (filter (is_enabled_loaded pipeline.now) (group_events group)) }
+    ensures few { result ≤ 4294967295 }
 {
     let mut count = 0;
-    for e in events {
-        if pipeline.enabled(e) {
+    for i in 0..group.count {
+        if pipeline.enabled_at(group.kind, i) {
             count += 1;
         }
     }
     count
 }
 
+/// How many of the events can be done.
+pub(crate) fn count_of<T: Site, S: Store>(pipeline: &Pipeline<T, S>, groups: &[EventGroup]) -> usize
+    requires { length groups.now ≤ 4096 }
+    ensures { result ≡ length (filter (is_enabled_loaded pipeline.now) (events_of groups.now)) }
+{
+    let mut count = 0;
+    for group in groups {
+        count += count_in(pipeline, *group);
+    }
+    count
+}
+
+/// The event at this place, from 0, among the events of the group that can be done, or how many places behind them it is.
+fn nth_in<T: Site, S: Store>(
+    pipeline: &Pipeline<T, S>,
+    group: EventGroup,
+    place: usize,
+) -> Result<Event, usize>
+    ensures { MatchResult result
+        (λ e. slice_get (filter (is_enabled_loaded pipeline.now) (group_events group)) place
+        ≡ Some e)
+        (λ left. left + length (filter (is_enabled_loaded pipeline.now) (group_events group))
+        ≡ place) }
+{
+    let mut left = place;
+    for i in 0..group.count {
+        if pipeline.enabled_at(group.kind, i) {
+            if left == 0 {
+                return Ok(event_of(group.kind, i));
+            }
+            left -= 1;
+        }
+    }
+    Err(left)
+}
+
 /// The event at this place, from 0, among the events that can be done.
 pub(crate) fn nth_of<T: Site, S: Store>(
     pipeline: &Pipeline<T, S>,
-    events: &[Event],
+    groups: &[EventGroup],
     place: usize,
 ) -> Option<Event>
-    ensures { result ≡ slice_get (filter (is_enabled_loaded pipeline.now) events.now) place }
+    ensures { result
+        ≡ slice_get (filter (is_enabled_loaded pipeline.now) (events_of groups.now)) place }
 {
     let mut left = place;
-    for e in events {
-        if pipeline.enabled(e) {
-            if left == 0 {
-                return Some(*e);
-            }
-            left -= 1;
+    for group in groups {
+        match nth_in(pipeline, *group, left) {
+            Ok(e) => return Some(e),
+            Err(behind) => left = behind,
         }
     }
     None

@@ -11,12 +11,14 @@ ghost use Rattle.whips_store.specs.Stores.{changes_left};
 ghost use Rattle.whips_store.specs.Calls.{AreNet, shortage, begun, changed_once};
 ghost use Rattle.whips_contents.specs.Contents.{LoadedSource, LoadedManager, ManagerInput};
 ghost use Rattle.whips_contents.specs.Events.{source_after_commit, source_after_oldest_ask, oldest_ask_to, after_forward, after_integrate, oldest_message, after_input, oldest_list, after_list, after_publish, after_announcement, is_enabled_loaded, is_full_for, begin_refusal, next_loaded};
+ghost use Rattle.whips_core.specs.Groups.{event_of};
 ghost use Rattle.whips_core.specs.Queues.{numbered_by};
 ghost use Rattle.whips_core_laws.specs.Calls.{FitsInput, FitsRel, FitsBegin};
 ghost use Rattle.whips_flow.specs.declared.event.Event.TheVariants.{Begin};
 ghost use Rattle.whips_core.specs.Pipelines.{started};
 
 use crate::changes::changes_by;
+use crate::order::EventKind;
 use crate::queues::{
     Announced, Input, ManagerQueues, Numbered, SourceQueues, announce, answer_at, ask_all,
     can_commit, commit_at, has_ask, has_input, has_list, has_message, manage_at, managers_of,
@@ -287,20 +289,37 @@ impl<T: Site, S: Store> Pipeline<T, S> {
         (sources, store)
     }
 
+    /// Whether the event of this kind at a place can be done now.
+    pub(crate) fn enabled_at(&self, kind: EventKind, i: u32) -> bool
+        ensures { result ≡ is_enabled_loaded self.now (event_of kind i) }
+    {
+        match kind {
+            EventKind::Publish => self.store.phase() % 2 == 1 && self.store.left() == 0,
+            EventKind::Change => self.store.left() > 0,
+            EventKind::Begin => self.merge.waits() && self.store.phase() % 2 == 0,
+            EventKind::Act => has_list(&self.managers, i),
+            EventKind::Rel => self.announcements.front().is_some(),
+            EventKind::Manage => has_input(&self.managers, i),
+            EventKind::Integrate => has_message(&self.sources, i),
+            EventKind::Answer(y) => has_ask(&self.sources, y, i),
+            EventKind::Commit => can_commit(&self.sources, i),
+        }
+    }
+
     /// Whether the event can be done now.
     pub fn enabled(&self, e: &Event) -> bool
         ensures { result ≡ is_enabled_loaded self.now e.now }
     {
         match e {
-            Event::Commit(y) => can_commit(&self.sources, *y),
-            Event::Answer(y, x) => has_ask(&self.sources, *y, *x),
-            Event::Integrate(y) => has_message(&self.sources, *y),
-            Event::Manage(x) => has_input(&self.managers, *x),
-            Event::Rel => self.announcements.front().is_some(),
-            Event::Act(x) => has_list(&self.managers, *x),
-            Event::Begin => self.merge.waits() && self.store.phase() % 2 == 0,
-            Event::Change => self.store.left() > 0,
-            Event::Publish => self.store.phase() % 2 == 1 && self.store.left() == 0,
+            Event::Commit(y) => self.enabled_at(EventKind::Commit, *y),
+            Event::Answer(y, x) => self.enabled_at(EventKind::Answer(*y), *x),
+            Event::Integrate(y) => self.enabled_at(EventKind::Integrate, *y),
+            Event::Manage(x) => self.enabled_at(EventKind::Manage, *x),
+            Event::Rel => self.enabled_at(EventKind::Rel, 0),
+            Event::Act(x) => self.enabled_at(EventKind::Act, *x),
+            Event::Begin => self.enabled_at(EventKind::Begin, 0),
+            Event::Change => self.enabled_at(EventKind::Change, 0),
+            Event::Publish => self.enabled_at(EventKind::Publish, 0),
             Event::SessionOpen(_)
             | Event::SessionScan(_, _)
             | Event::SessionFetch(_, _)

@@ -1,7 +1,7 @@
 //! Canonical texts: what is written of a script, and that it is written of it again once it was read.
 use std::alloc::Global;
+use whips_canonical_scripts::write_script;
 use whips_script_reading::read_script;
-use whips_script_writing::write_script;
 
 /// A document, and the canonical text of the script that it is.
 struct Case {

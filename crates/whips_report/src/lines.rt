@@ -1,6 +1,6 @@
 //! The lines of a record.
-ghost use Rattle.std.specs.Prelude.{◌≡◌, ◌∷◌, ◌++◌, [], OnOk, string_bytes};
-ghost use Rattle.whips_runs.specs.Records.{version, skip, final};
+ghost use Rattle.std.specs.Prelude.{◌≡◌, ◌∷◌, ◌++◌, [], OnOk, string_bytes, codes, decimal};
+ghost use Rattle.whips_runs.specs.Records.{version, skip, opened, final};
 ghost use Rattle.whips_facts.specs.Scripts.{Script};
 ghost use Rattle.whips_reports.specs.Lines.{words, record_words, record_lines, text_of};
 ghost use Rattle.whips_report.specs.Recs.{reported_of};
@@ -9,6 +9,7 @@ ghost use Rattle.whips_report.specs.Texts.{first_line, reported_rows_text};
 use crate::rows::{push_read_rows, push_view_rows, row_kinds};
 use crate::words::{push_counts, push_event};
 use crate::{Labels, Rec};
+use itoa::Buffer;
 use std::alloc::AllocError;
 use whips_rel::NoMemory;
 use whips_setup::{Event, Setup};
@@ -28,6 +29,33 @@ fn push_version(
     push_counts(text, labels.sources(), cut)?;
     text.push_str(" rows")?;
     push_counts(text, labels.views(), rows)
+}
+
+/// The words of a version and a phase, behind a blank.
+fn push_version_and_phase(text: &mut String, v: u64, phase: u64) -> Result<(), AllocError>
+    ensures { OnOk result (string_bytes text.new ≡ string_bytes text.old
+        ++ codes " version " ++ decimal v ++ codes " phase " ++ decimal phase) }
+{
+    text.push_str(" version ")?;
+    text.push_str(Buffer::new().format(v))?;
+    text.push_str(" phase ")?;
+    text.push_str(Buffer::new().format(phase))
+}
+
+/// The line of a session that began.
+fn push_opened(
+    text: &mut String,
+    labels: &Labels,
+    s: u32,
+    v: u64,
+    phase: u64,
+) -> Result<(), AllocError>
+    ensures { OnOk result (string_bytes text.new ≡ string_bytes text.old
+        ++ words (record_words labels.now 0 (opened s v phase))) }
+{
+    text.push_str("open ")?;
+    text.push_str(labels.session(s))?;
+    push_version_and_phase(text, v, phase)
 }
 
 /// The line of an event that was skipped.
@@ -56,11 +84,7 @@ fn push_first_line(text: &mut String, rec: &Rec, labels: &Labels) -> Result<(), 
     match rec {
         Rec::Version { number, cut, rows } => push_version(text, labels, *number, cut, rows),
         Rec::Skip { at, event } => push_skip(text, labels, *at, *event),
-        Rec::Opened { s, v, phase } => write!(
-            text,
-            "open {} version {v} phase {phase}",
-            labels.session(*s)
-        ),
+        Rec::Opened { s, v, phase } => push_opened(text, labels, *s, *v, *phase),
         Rec::More {
             s,
             x,

@@ -1,5 +1,5 @@
 //! A sink of records that writes their lines.
-ghost use Rattle.std.specs.Prelude.{◌≡◌};
+ghost use Rattle.std.specs.Prelude.{◌≡◌, [], IfOk, string_bytes};
 ghost use Rattle.whips_report.specs.Told.{output_at, IsWritten, IsPartWritten};
 ghost use Rattle.whips_report.specs.Laws.{written_none, written_more, part_later};
 ghost use Rattle.std.proofs.Common.{refl, ◌∙◌};
@@ -7,7 +7,11 @@ ghost use Rattle.std.proofs.Common.{refl, ◌∙◌};
 use crate::{Labels, Rec, RecordErr, RecordSink, push_lines};
 use std::alloc::Global;
 use whips_io::{Sink, WriteFault, write_all};
+use whips_rel::NoMemory;
 use whips_setup::Setup;
+
+/// How many bytes a line has room for before its text grows.
+const LINE: usize = 64;
 
 /// A sink of records that writes the lines of each to an output, in one write a record.
 #[derive(Drop)]
@@ -40,6 +44,13 @@ impl<'a, O: Sink> LineSink<'a, O> {
     }
 }
 
+/// An empty text with room for a line.
+fn line_buffer(alloc: Global) -> Result<String, NoMemory>
+    ensures { IfOk result (λ text. string_bytes text ≡ []) }
+{
+    Ok(String::with_capacity(alloc, LINE)?)
+}
+
 impl<'a, O: Sink> RecordSink for LineSink<'a, O> {
     ghost told = { λ k l rs. (l.output.ghost_name ≡ k.output.ghost_name) × (l.labels.now ≡ k.labels.now)
         × (l.setup.now ≡ k.setup.now) × IsWritten k.labels.now k.setup.now rs
@@ -52,7 +63,7 @@ impl<'a, O: Sink> RecordSink for LineSink<'a, O> {
         (output_at O.written O.faults l.output.now) };
 
     fn push(&mut self, rec: &Rec) -> Result<(), RecordErr> {
-        let mut text = String::new(self.alloc);
+        let mut text = line_buffer(self.alloc)?;
         push_lines(&mut text, rec, self.labels, self.setup)?;
         match write_all(self.output, text.as_bytes()) {
             Ok(()) => Ok(()),

@@ -7,6 +7,7 @@ use Rattle.whips_reports.specs.Reported.{reported}
 use Rattle.whips_store.specs.Stores.{StoreState}
 use Rattle.whips_contents.specs.Contents.{LoadedSource}
 use Rattle.whips_script_reading.specs.Script.{NamedScript, script_of}
+use Rattle.whips_script_writing.specs.Scripts.{canonical}
 use Rattle.whips_world.specs.Runs.{EndsWith}
 use Rattle.whips_headline_laws.specs.Headline.{Headline}
 use Rattle.whips_gen.specs.Made.{made_script, made_plan}
@@ -76,11 +77,12 @@ pub record MadeMeetsHeadline (start size : ℕ) (old new : Option (List ℕ)) : 
   pub written : Appends old new (summary start size)
   pub headline : Headline (made_script start size) (reported (made_script start size) (made_run start size))
 
--- The bytes are a script, and what was written is its canonical text with a line feed.
+-- The bytes are a script; what was written is its canonical text with a line feed; and that text is the same script.
 pub record WritesCanonical (bytes : List ℕ) (old new : Option (List ℕ)) : Type 0 where
   pub named : NamedScript
   pub is : script_of bytes ≡ Ok named
   pub written : Appends old new (canonical_line named)
+  pub again : script_of (canonical named) ≡ Ok named
 
 -- With this command, and with the known bytes of its source from `left` to `left'`, a call writes what meets the
 -- headline; or the canonical text, where the command only checks a script.

@@ -1,21 +1,25 @@
 //! Scripts that are checked.
-ghost use Rattle.std.specs.Prelude.{◌≡◌, ◌≢◌, ◌<◌, ◌⊎◌, ℕ, [], length, take, IfOk};
+ghost use Rattle.std.specs.Prelude.{◌≡◌, ◌≢◌, ◌<◌, ◌⊎◌, ℕ, List, [], length, take, Ok, IfOk, OnOk};
 ghost use Rattle.std.specs.Io.KnownBytes.{Appends};
 ghost use Rattle.whips_io.specs.Counts.{HasRisen};
+ghost use Rattle.whips_script_reading.specs.Script.{script_of};
+ghost use Rattle.whips_script_writing.specs.Scripts.{canonical};
 ghost use Rattle.whips_run.specs.Answer.{canonical_line, checked};
 ghost use Rattle.whips_run.specs.Outcome.{WritesCanonical};
 
 use crate::answers::answer_refusal;
 use crate::writing::end_with_bytes;
 use std::alloc::Global;
+use whips_canonical_scripts::write_script;
 use whips_io::Sink;
 use whips_rel::NoMemory;
 use whips_script_reading::{ReadErr, Script, read_script};
-use whips_script_writing::write_script;
 
 /// The canonical text of the script, with a line feed.
 fn canonical_line(alloc: Global, script: &Script) -> Result<Vec<u8>, NoMemory>
-    ensures { IfOk result (λ text. text.items ≡ canonical_line script.now) }
+    ensures text { IfOk result (λ text. text.items ≡ canonical_line script.now) }
+    ensures read { OnOk result ((input : List ℕ) → script_of input ≡ Ok script.now
+        → script_of (canonical script.now) ≡ Ok script.now) }
 {
     let mut text = write_script(alloc, script)?;
     text.push(b'\n')?;
@@ -32,6 +36,8 @@ fn answer_canonical<O: Sink>(alloc: Global, script: &Script, output: &mut O) -> 
         × HasRisen (O.faults output.old) (O.faults output.new) }
     ensures no_memory { result ≡ 6
         → Appends (O.written output.old) (O.written output.new) [] }
+    ensures read { result ≢ 6 → (input : List ℕ) → script_of input ≡ Ok script.now
+        → script_of (canonical script.now) ≡ Ok script.now }
 {
     match canonical_line(alloc, script) {
         Ok(text) => end_with_bytes(0, &text, output),

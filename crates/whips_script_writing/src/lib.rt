@@ -10,4 +10,4 @@ mod text;
 mod update;
 mod view;
 
-pub use script::write_script;
+pub use script::canonical_text;

@@ -189,10 +189,10 @@ fn push_script(out: &mut String, script: &Script) -> Result<(), AllocError>
 
 /// The canonical text of a script: the compact JSON text of its data, with every member written but for `versions` where
 /// it is 2, members in the order of their bytes, and initial rows in the order of their keys.
-pub fn write_script(alloc: Global, script: &Script) -> Result<Vec<u8>, NoMemory>
-    ensures { IfOk result (λ bytes. bytes.items ≡ canonical script.now) }
+pub fn canonical_text(alloc: Global, script: &Script) -> Result<String, NoMemory>
+    ensures { IfOk result (λ text. string_bytes text ≡ canonical script.now) }
 {
     let mut out = String::new(alloc);
     push_script(&mut out, script)?;
-    Ok(out.into_bytes())
+    Ok(out)
 }

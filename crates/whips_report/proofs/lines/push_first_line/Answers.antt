@@ -1,7 +1,7 @@
 use Rattle.whips_report.proofs.lines.push_first_line.Goals as goal
 
 pub returns-in-More : goal.returns-in-More
-returns-in-More c = rw (c.in-More.is, ← c.session-in-More.ensures, ← c.view.ensures) c.write-in-More.ensures.bytes
+returns-in-More c = rw (c.in-More.is, ← c.session.ensures, ← c.view.ensures) c.write.ensures.bytes
 
 pub returns-in-Read : goal.returns-in-Read
 returns-in-Read c = rw (c.in-Read.is, ← c.session-in-Read.ensures, ← c.view-in-Read.ensures, ← c.len.ensures.len) c.write-in-Read.ensures.bytes

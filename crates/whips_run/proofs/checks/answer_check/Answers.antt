@@ -18,7 +18,8 @@ returns-in-Ok-clause-sink_failed g c = λ is_fault.
 pub returns-in-Ok-clause-done : goal.returns-in-Ok-clause-done
 returns-in-Ok-clause-done g c = λ done.
     let e = c.answer_canonical.ensures.ended (not_five c.answer_canonical.result done) (not_six c.answer_canonical.result done) in
-    record { named = c.in-Ok.script; is = ap script_of (sym c.deref.ensures.value) ∙ c.in-Ok.ensures; written = e.1 }
+    let is = ap script_of (sym c.deref.ensures.value) ∙ c.in-Ok.ensures in
+    record { named = c.in-Ok.script; is = is; written = e.1; again = c.answer_canonical.ensures.read (not_six c.answer_canonical.result done) c.args.bytes.items is }
 
 pub returns-in-Err-Refused-clause-ended : goal.returns-in-Err-Refused-clause-ended
 returns-in-Err-Refused-clause-ended g c = λ no_fault no_want.

@@ -1,4 +1,4 @@
-use Rattle.std.proofs.Common.{◌≡◌, length, sym, ap, subst, ◌∙◌}
+use Rattle.std.proofs.Common.{length, ap, ◌∙◌}
 use Rattle.whips_core.specs.Cores.{CoreData}
 use Rattle.whips_core.proofs.Carried.{cut_long}
 use Rattle.whips_core.proofs.cores.Core.cut.Goals as goal

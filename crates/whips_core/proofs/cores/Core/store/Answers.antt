@@ -1,4 +1,4 @@
-use Rattle.std.proofs.Common.{◌≡◌, false, sym, ap, subst, ◌∙◌}
+use Rattle.std.proofs.Common.{ap, subst, ◌∙◌}
 use Rattle.whips_core.specs.Cores.{CoreData, IsRun}
 use Rattle.whips_core.proofs.Carried.{run_of}
 use Rattle.whips_core.proofs.cores.Core.store.Goals as goal

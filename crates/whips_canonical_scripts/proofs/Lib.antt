@@ -1,0 +1,4 @@
+pub mod Views
+pub mod Plans
+pub mod Documents
+pub mod Whole

@@ -1,6 +1,0 @@
-use Rattle.whips_flow.specs.declared.event.Event.TheVariants.{Integrate}
-use Rattle.whips_core.proofs.Orders.{mapped_next}
-use Rattle.whips_core.proofs.order.push_integrates.Goals as goal
-
-pub loop-y-preserved : goal.loop-y-preserved
-loop-y-preserved c = mapped_next (λ y. Integrate y) c.args.events.now.items c.loop-y.events.items c.push.new.self.items c.loop-y.y c.loop-y.invariant c.in_ok-push.ensures.items

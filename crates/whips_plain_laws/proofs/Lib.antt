@@ -1,0 +1,5 @@
+pub mod Made
+pub mod Read
+pub mod Updates
+pub mod Objects
+pub mod Documents
