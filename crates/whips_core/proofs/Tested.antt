@@ -1,11 +1,14 @@
 -- The elements of a list that pass a test: the first, their number, and each by its place among them.
-use Rattle.std.proofs.Common.{◌≡◌, ℕ, zero, suc, ◌+◌, ◌<◌, ◌-◌, Bool, true, false, cond, List, [], ◌∷◌, ◌++◌, length, map, take, Some, None, refl, sym, ap, ◌∙◌, arith, append_assoc, append-nil}
+use Rattle.std.proofs.Common.{◌≡◌, ℕ, zero, suc, ◌+◌, ◌<◌, ◌-◌, Bool, true, false, cond, List, [], ◌∷◌, ◌++◌, length, map, take, Some, None, refl, sym, ap, ap₂, ◌∙◌, arith, append_assoc, append-nil}
 use Rattle.std.specs.Prelude.{find, filter, slice_get, slice_index_or}
 use Rattle.std.proofs.lemmas.List.{map-append, length-append}
 use Rattle.whips_lists.specs.Lists.{places_from}
-use Rattle.whips_core.specs.Groups.{group_events, events_of}
+use Rattle.whips_flow.specs.Facts.{Facts}
+use Rattle.whips_flow.specs.Progress.{pipeline_events}
+use Rattle.whips_core.specs.Groups.{group_events, events_of, answers_of, group_of, first_groups}
+use Rattle.whips_core.specs.declared.order.EventKind.TheVariants as kind
 use Rattle.whips_core.specs.declared.order.EventGroup.{EventGroup}
-use Rattle.whips_core.proofs.Orders.{places_then}
+use Rattle.whips_core.proofs.Orders.{places_then, all_groups, groups_are, events_join}
 use Rattle.whips_flow.specs.declared.event.Event.{Event}
 
 module _ {A : Type 0} (test : A → Bool) where
@@ -130,12 +133,6 @@ module _ (test : Event → Bool) (gs : List EventGroup) (i : ℕ) (d : EventGrou
       let s = groups_split gs i d lt in
       ap (find test) s.2 ∙ first_behind test (events_of (take i gs)) (here ++ s.1) none ∙ first_before test here s.1 e h
 
-  pub count_more : (n k : ℕ) → n ≡ length (filter test (events_of (take i gs))) → k ≡ length (filter test here) → n + k ≡ length (filter test (events_of (take (i + 1) gs)))
-  count_more n k h e =
-      let s = groups_split gs i d lt in
-      let all = ap (λ l. length (filter test l)) s.0 ∙ passing_count test (events_of (take i gs)) here in
-      omega (arith, h, e, all)
-
   pub left_more : (place left behind : ℕ) → left + length (filter test (events_of (take i gs))) ≡ place → behind + length (filter test here) ≡ left → behind + length (filter test (events_of (take (i + 1) gs))) ≡ place
   left_more place left behind h e =
       let s = groups_split gs i d lt in
@@ -149,3 +146,58 @@ module _ (test : Event → Bool) (gs : List EventGroup) (i : ℕ) (d : EventGrou
       ap (λ l. slice_get l place) all
       ∙ nth_behind (filter test (events_of (take i gs))) (filter test here ++ filter test s.1) left place h
       ∙ nth_before (filter test here) (filter test s.1) left e is
+
+-- ---- numbers of events
+
+module _ (test : Event → Bool) where
+  abbrev number : List Event → ℕ
+  number es = length (filter test es)
+
+  pub counted_group : (g h : EventGroup) (n : ℕ) → n ≡ number (group_events g) → g ≡ h → n ≡ number (group_events h)
+  counted_group g h n is same = is ∙ ap (λ g. number (group_events g)) same
+
+  -- those of a group and of others
+  pub counted_then : (g : EventGroup) (gs : List EventGroup) (n k : ℕ) → n ≡ number (group_events g) → k ≡ number (events_of gs) → n + k ≡ number (events_of (g ∷ gs))
+  counted_then g gs n k h e = ap₂ (λ a b. a + b) h e ∙ sym (passing_count test (group_events g) (events_of gs))
+
+  -- those of seven groups
+  pub counted_seven : (g1 g2 g3 g4 g5 g6 g7 : EventGroup) (n1 n2 n3 n4 n5 n6 n7 : ℕ)
+      → n1 ≡ number (group_events g1) → n2 ≡ number (group_events g2) → n3 ≡ number (group_events g3) → n4 ≡ number (group_events g4) → n5 ≡ number (group_events g5) → n6 ≡ number (group_events g6) → n7 ≡ number (group_events g7)
+      → n1 + n2 + n3 + n4 + n5 + n6 + n7 ≡ number (events_of (g1 ∷ g2 ∷ g3 ∷ g4 ∷ g5 ∷ g6 ∷ g7 ∷ []))
+  counted_seven g1 g2 g3 g4 g5 g6 g7 n1 n2 n3 n4 n5 n6 n7 h1 h2 h3 h4 h5 h6 h7 =
+      let r7 = counted_then g7 [] n7 0 h7 refl in
+      let r6 = counted_then g6 (g7 ∷ []) n6 (n7 + 0) h6 r7 in
+      let r5 = counted_then g5 (g6 ∷ g7 ∷ []) n5 (n6 + (n7 + 0)) h5 r6 in
+      let r4 = counted_then g4 (g5 ∷ g6 ∷ g7 ∷ []) n4 (n5 + (n6 + (n7 + 0))) h4 r5 in
+      let r3 = counted_then g3 (g4 ∷ g5 ∷ g6 ∷ g7 ∷ []) n3 (n4 + (n5 + (n6 + (n7 + 0)))) h3 r4 in
+      let r2 = counted_then g2 (g3 ∷ g4 ∷ g5 ∷ g6 ∷ g7 ∷ []) n2 (n3 + (n4 + (n5 + (n6 + (n7 + 0))))) h2 r3 in
+      let r1 = counted_then g1 (g2 ∷ g3 ∷ g4 ∷ g5 ∷ g6 ∷ g7 ∷ []) n1 (n2 + (n3 + (n4 + (n5 + (n6 + (n7 + 0)))))) h1 r2 in
+      omega (arith, r1)
+
+  -- those of one source more
+  pub counted_answers : (views y n k : ℕ) → n ≡ number (events_of (map (answers_of views) (places_from 0 y))) → k ≡ number (group_events (answers_of views y))
+      → n + k ≡ number (events_of (map (answers_of views) (places_from 0 (y + 1))))
+  counted_answers views y n k h e =
+      let before = map (answers_of views) (places_from 0 y) in
+      let one = answers_of views y in
+      ap₂ (λ a b. a + b) h e ∙ sym (
+      ap (λ l. number (events_of (map (answers_of views) l))) (places_then y)
+      ∙ ap (λ gs. number (events_of gs)) (map-append (answers_of views) (places_from 0 y) (y ∷ []))
+      ∙ ap number (events_join before (one ∷ []))
+      ∙ ap (λ l. number (events_of before ++ l)) (append-nil (group_events one))
+      ∙ passing_count test (events_of before) (group_events one)
+      )
+
+  -- those of all groups
+  pub counted_all : (views sources a b d : ℕ) → a ≡ number (events_of (first_groups views sources)) → b ≡ number (events_of (map (answers_of views) (places_from 0 sources)))
+      → d ≡ number (group_events (group_of kind.Commit sources)) → (f : Facts) → length f.slots ≡ views → length f.transactions ≡ sources → a + b + d ≡ number (pipeline_events f)
+  counted_all views sources a b d ha hb hd f v s =
+      let first = first_groups views sources in
+      let answers = map (answers_of views) (places_from 0 sources) in
+      let last = group_of kind.Commit sources in
+      let joined : number (events_of (all_groups views sources)) ≡ number (events_of first) + number (events_of answers) + number (group_events last) =
+      ap number (events_join (first ++ answers) (last ∷ []))
+      ∙ ap (λ l. number (events_of (first ++ answers) ++ l)) (append-nil (group_events last))
+      ∙ passing_count test (events_of (first ++ answers)) (group_events last)
+      ∙ ap (λ n. n + number (group_events last)) (ap number (events_join first answers) ∙ passing_count test (events_of first) (events_of answers)) in
+      ap₂ (λ m n. m + n) (ap₂ (λ m n. m + n) ha hb) hd ∙ sym joined ∙ ap₂ (λ m n. number (events_of (all_groups m n))) (sym v) (sym s) ∙ ap number (groups_are f)

@@ -249,7 +249,7 @@ impl<T: Site, S: Store> Core<T, S> {
             → length f.transactions ≡ self.now.setup.sources
             → result ≡ length (filter (is_enabled_loaded self.now.loaded) (pipeline_events f)) }
     {
-        count_of(&self.pipeline, &self.groups)
+        count_of(&self.pipeline, self.setup.views(), self.setup.sources())
     }
 
     /// The event at this place, from 0, among those that can be done, in the order of `first`.

@@ -141,6 +141,7 @@ pub(crate) fn first_of<T: Site, S: Store>(
 }
 
 /// How many events of the group can be done.
+#[inline(always)]
 fn count_in<T: Site, S: Store>(pipeline: &Pipeline<T, S>, group: EventGroup) -> usize
     ensures count { result
         ≡ length (filter (is_enabled_loaded pipeline.now) (group_events group)) }
@@ -155,16 +156,50 @@ fn count_in<T: Site, S: Store>(pipeline: &Pipeline<T, S>, group: EventGroup) -> 
     count
 }
 
-/// How many of the events can be done.
-pub(crate) fn count_of<T: Site, S: Store>(pipeline: &Pipeline<T, S>, groups: &[EventGroup]) -> usize
-    requires { length groups.now ≤ 4096 }
-    ensures { result ≡ length (filter (is_enabled_loaded pipeline.now) (events_of groups.now)) }
+/// How many of the events before the answers of sources can be done.
+#[inline(always)]
+fn count_first<T: Site, S: Store>(pipeline: &Pipeline<T, S>, views: u32, sources: u32) -> usize
+    ensures count { result ≡ length
+        (filter (is_enabled_loaded pipeline.now) (events_of (first_groups views sources))) }
+    ensures few { result ≤ 30064771065 }
+{
+    count_in(pipeline, group(EventKind::Publish, 1))
+        + count_in(pipeline, group(EventKind::Change, 1))
+        + count_in(pipeline, group(EventKind::Begin, 1))
+        + count_in(pipeline, group(EventKind::Act, views))
+        + count_in(pipeline, group(EventKind::Rel, 1))
+        + count_in(pipeline, group(EventKind::Manage, views))
+        + count_in(pipeline, group(EventKind::Integrate, sources))
+}
+
+/// How many answers of so many sources to so many views can be done.
+fn count_answers<T: Site, S: Store>(pipeline: &Pipeline<T, S>, views: u32, sources: u32) -> usize
+    requires { sources ≤ 8 }
+    ensures count { result ≡ length (filter (is_enabled_loaded pipeline.now)
+        (events_of (map (answers_of views) (places_from 0 sources)))) }
+    ensures few { result ≤ 34359738360 }
 {
     let mut count = 0;
-    for group in groups {
-        count += count_in(pipeline, *group);
+    for y in 0..sources {
+        count += count_in(pipeline, group(EventKind::Answer(y), views));
     }
     count
+}
+
+/// How many of the events of a pipeline with so many views and sources can be done. The kinds stand in its calls, so that
+/// none is looked up for each event.
+pub(crate) fn count_of<T: Site, S: Store>(
+    pipeline: &Pipeline<T, S>,
+    views: u32,
+    sources: u32,
+) -> usize
+    requires { sources ≤ 8 }
+    ensures { (f : Facts) → length f.slots ≡ views → length f.transactions ≡ sources
+        → result ≡ length (filter (is_enabled_loaded pipeline.now) (pipeline_events f)) }
+{
+    count_first(pipeline, views, sources)
+        + count_answers(pipeline, views, sources)
+        + count_in(pipeline, group(EventKind::Commit, sources))
 }
 
 /// The event at this place, from 0, among the events of the group that can be done, or how many places behind them it is.

@@ -1,0 +1,4 @@
+pub mod Logged
+pub mod Rows
+pub mod Bases
+pub mod Whole
