@@ -1,7 +1,9 @@
 -- One change is made.
 use Rattle.std.proofs.Common.{◌≡◌, ℕ, zero, suc, ◌+◌, ◌<◌, ◌≤◌, List, [], ◌∷◌, length, get_or, refl, sym, ap, ap₂, subst, ◌∙◌, arith, inl, inr}
 use Rattle.std.specs.Prelude.{set}
+use Rattle.std.specs.List.{sum_by}
 use Rattle.std.proofs.lemmas.Bool.{cases_lt}
+use Rattle.std.proofs.lemmas.List.Sums.{sum_by-cons}
 use Rattle.whips_rel.specs.declared.update.Change.{Change}
 use Rattle.whips_store.specs.Stores.{ViewState, no_view}
 use Rattle.whips_store.specs.Calls.{changed_view, views_changed}
@@ -71,3 +73,16 @@ none_yet vs mid seen m x same none lt is counts nought k below = elim (cases_lt 
     nothing : (left : List Change) → length left ≡ 0 → left ≡ []
     nothing [] e = refl
     nothing (y ∷ left) e = absurd (omega (arith, e))
+
+-- ---- no change is left
+
+none_at_all : (vs : List ViewState) → NoneBefore (length vs) vs → sum_by (λ (v : ViewState). length v.left) vs ≡ 0
+none_at_all [] none = refl
+none_at_all (v ∷ vs) none =
+    let rest = none_at_all vs (λ k below. none (suc k) (omega (arith, below))) in
+    let here = ap length (none 0 (omega arith)) in
+    let both = sum_by-cons (λ (v : ViewState). length v.left) v vs in
+    omega (arith, rest, here, both)
+
+pub none_in_all : (vs : List ViewState) (x : ℕ) → NoneBefore x vs → length vs ≤ x → sum_by (λ (v : ViewState). length v.left) vs ≡ 0
+none_in_all vs x none all = none_at_all vs (λ k below. none k (omega (arith, below, all)))

@@ -1,14 +1,18 @@
 //! The plain store.
-ghost use Rattle.std.specs.Prelude.{◌≡◌, IfOk};
+ghost use Rattle.std.specs.Prelude.{◌≡◌, ◌/◌, IfOk, MatchOption};
 ghost use Rattle.whips_store.specs.Sound.{IsSoundStore};
 ghost use Rattle.whips_store.specs.First.{store_at_first};
+ghost use Rattle.whips_store.specs.Stores.{changes_left};
+ghost use Rattle.whips_plain.specs.Plain.{IsFirstLeft};
 
 use crate::first::first_views;
-use crate::views::{change_first, check_views, count_changes, publish_views, put_changes};
+use crate::views::{
+    change_first, check_views, count_changes, first_left, publish_views, put_changes,
+};
 use std::alloc::Global;
 use std::marker::Model;
 use whips_plain_store::PlainView;
-use whips_rel::{NoMemory, Rows};
+use whips_rel::{Change, NoMemory, Rows};
 use whips_row_buf::RowBuf;
 use whips_setup::Setup;
 use whips_store::{Changes, Store, StoreErr};
@@ -62,6 +66,17 @@ impl Plain {
             views,
             left: 0,
         })
+    }
+
+    /// The change that `change_next` will make: the number of its view, the slot in which it will be made, and the
+    /// change. None is left where none is told.
+    pub fn next_change(&self) -> Option<(u32, u32, &Change)>
+        ensures { MatchOption result (changes_left self.now ≡ 0)
+            (λ next. IsFirstLeft self.now.versions (self.now.phase / 2) self.now.views
+            next.0 next.1 next.2.now) }
+    {
+        let (x, slot, change) = first_left(&self.views, self.phase, self.versions)?;
+        Some((x as u32, slot as u32, change))
     }
 }
 

@@ -1,11 +1,11 @@
 //! What the calls of a store do to each of its views.
-ghost use Rattle.std.specs.Prelude.{◌≡◌, ◌≢◌, ◌<◌, ◌≤◌, ◌+◌, ◌/◌, ◌%◌, ◌^◌, length, map, None, Some, IfErr, IfSome, OnOk};
-ghost use Rattle.std.specs.List.{AllByRecursion};
+ghost use Rattle.std.specs.Prelude.{◌≡◌, ◌≢◌, ◌<◌, ◌≤◌, ◌+◌, ◌/◌, ◌%◌, ◌^◌, length, map, None, Some, IfErr, IfSome, OnOk, MatchOption};
+ghost use Rattle.std.specs.List.{sum_by, AllByRecursion};
 ghost use Rattle.whips_store.specs.Stores.{ViewState};
 ghost use Rattle.whips_store.specs.Calls.{AreNet, AreNetChanges, slots_needed, first_full, views_with, views_changed};
 ghost use Rattle.whips_store.specs.Sound.{IsSoundView};
 ghost use Rattle.whips_store_laws.specs.Laws.{AreTables};
-ghost use Rattle.whips_plain.specs.Plain.{count};
+ghost use Rattle.whips_plain.specs.Plain.{count, IsFirstLeft};
 
 use whips_plain_store::PlainView;
 use whips_rel::{Change, Rows};
@@ -102,6 +102,23 @@ pub(crate) fn put_changes(views: &mut Vec<PlainView>, changes: Changes)
         views[x].begin(change.0, change.1);
         x += 1;
     }
+}
+
+/// The first change that is left, behind its view and the slot in which it will be made.
+pub(crate) fn first_left(views: &[PlainView], phase: u64, n: u32) -> Option<(usize, usize, &Change)>
+    requires least { 2 ≤ n }
+    requires most { n ≤ 4 }
+    requires phase { phase < 2 ^ 63 }
+    requires sound { AllByRecursion (IsSoundView n phase) views.now }
+    ensures { MatchOption result (sum_by (λ v. length v.left) views.now ≡ 0)
+        (λ next. IsFirstLeft n (phase / 2) views.now next.0 next.1 next.2.now) }
+{
+    for x in 0..views.len() {
+        if let Some((slot, change)) = views[x].next_change(phase, n) {
+            return Some((x, slot, change));
+        }
+    }
+    None
 }
 
 /// Makes the first change that is left.

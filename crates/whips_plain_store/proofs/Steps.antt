@@ -1,9 +1,9 @@
 -- A view's slots by their records.
-use Rattle.std.proofs.Common.{◌≡◌, ◌≢◌, ℕ, zero, suc, ◌+◌, ◌-◌, ◌/◌, ◌<◌, ◌≤◌, Bool, true, false, List, [], ◌∷◌, ◌++◌, length, get_or, Option, Some, None, refl, sym, ap, subst, ◌∙◌, arith}
+use Rattle.std.proofs.Common.{◌≡◌, ◌≢◌, ℕ, zero, suc, ◌+◌, ◌-◌, ◌/◌, ◌<◌, ◌≤◌, Bool, true, false, List, [], ◌∷◌, ◌++◌, length, get_or, take, Option, Some, None, refl, sym, ap, subst, ◌∙◌, arith}
 use Rattle.std.specs.Prelude.{reverse, set}
 use Rattle.std.specs.List.{AllByRecursion}
 use Rattle.std.specs.Option.{IfSome, ForSome}
-use Rattle.std.proofs.lemmas.List.{reverse-append, length-set, get_or-set_same}
+use Rattle.std.proofs.lemmas.List.{reverse-append, length-set, get_or-set_same, take_all, take_more}
 use Rattle.whips_model.proofs.Keyed.{all_at}
 use Rattle.whips_model.specs.Tuples.{Codes, Columns, codes_cmp}
 use Rattle.whips_choices.proofs.Rows.{codes_equal, codes_tied}
@@ -40,6 +40,13 @@ all_kept n phase (r ∷ records) h = (h.0.kept, all_kept n phase records h.1)
 
 pub first_left : (left others : List Change) (change : Change) → left ≡ others ++ change ∷ [] → reverse left ≡ change ∷ reverse others
 first_left left others change e = ap reverse e ∙ reverse-append others (change ∷ [])
+
+-- the last of the changes that are kept in reverse is the first one that is left
+pub last_left : (left lent : List Change) (change : Change) → lent ≡ left → 0 < length lent → change ≡ get_or lent (length lent - 1) change → reverse left ≡ change ∷ reverse (take (length lent - 1) lent)
+last_left left lent change same lt is =
+    let count : length lent ≡ (length lent - 1) + 1 = omega (arith, lt) in
+    first_left left (take (length lent - 1) lent) change
+    (sym same ∙ sym (take_all (length lent) lent (omega arith)) ∙ ap (λ n. take n lent) count ∙ take_more lent (length lent - 1) change (omega (arith, lt)) ∙ ap (λ t. take (length lent - 1) lent ++ t ∷ []) (sym is))
 
 pub change_made : (n c : ℕ) (v : ViewState) (change : Change) (others : List Change) (slot : ℕ) (records : List (List Vstep)) → v.left ≡ change ∷ others → slot_for n c v.columns.key (change_key v.columns.key change) v.records ≡ Some slot
     → records ≡ set v.records slot (steps_after n (c + 1) change (get_or v.records slot [])) → record v { records = records; left = others } ≡ changed_first n c v

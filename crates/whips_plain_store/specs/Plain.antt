@@ -2,9 +2,10 @@
 use Rattle.std.specs.Prelude.{◌≡◌, ℕ, ◌<◌, ◌≤◌, List, [], ◌∷◌, length, fold, Option, Some, None}
 use Rattle.whips_model.specs.Tuples.{Codes, put_row}
 use Rattle.whips_rel.specs.declared.update.Change.{Change}
+use Rattle.whips_net.specs.Made.{change_key}
 use Rattle.whips_vnl.specs.Records.{seen_row, seen_after}
 use Rattle.whips_store.specs.Stores.{ViewState}
-use Rattle.whips_store.specs.Calls.{changed_view}
+use Rattle.whips_store.specs.Calls.{slot_for, changed_view}
 
 -- the view once its first change that is left is made
 abbrev pub changed_first : ℕ → ℕ → ViewState → ViewState
@@ -12,6 +13,13 @@ changed_first n c v = elim v.left [
   | [] ↦ v
   | change ∷ others ↦ changed_view n c change others v
 ]
+
+-- The first change that is left in the view is this one, and it is to be made in slot i, which is there.
+pub record IsFirstChange (n c : ℕ) (v : ViewState) (i : ℕ) (change : Change) : Type 0 where
+  pub others : List Change
+  pub left : v.left ≡ change ∷ others
+  pub slot : slot_for n c v.columns.key (change_key v.columns.key change) v.records ≡ Some i
+  pub there : i < length v.records
 
 -- a row that the change brings has this many codes
 abbrev pub IsWide : ℕ → Change → Type 0

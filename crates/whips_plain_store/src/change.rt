@@ -59,7 +59,7 @@ pub(crate) fn slot_of(
     schema: &Schema,
     records: &[Option<Vrec>],
     change: &Change,
-    key: &Option<Tuple>,
+    key: Option<&Tuple>,
     n: u32,
     c: u64,
 ) -> Option<usize>

@@ -1,5 +1,5 @@
 //! One view in a plain store.
-ghost use Rattle.std.specs.Prelude.{◌≡◌, ℕ, ◌<◌, ◌≤◌, ◌+◌, ◌-◌, ◌/◌, ◌%◌, ◌^◌, [], ◌∷◌, ◌++◌, length, map, slice_index_or, set, true, IfOk};
+ghost use Rattle.std.specs.Prelude.{◌≡◌, ℕ, ◌<◌, ◌≤◌, ◌+◌, ◌-◌, ◌/◌, ◌%◌, ◌^◌, [], ◌∷◌, ◌++◌, length, map, slice_index_or, set, true, IfOk, MatchOption};
 ghost use Rattle.std.specs.List.{AllByRecursion};
 ghost use Rattle.whips_vnl.specs.Records.{steps_after, visible, shown_of, IsBelow, is_fitting};
 ghost use Rattle.whips_changes.specs.Changes.{need};
@@ -9,7 +9,7 @@ ghost use Rattle.whips_store.specs.Calls.{AreNetChanges, AreRowsWithin, slots_ne
 ghost use Rattle.whips_store.specs.First.{first_steps, first_records, first_view};
 ghost use Rattle.whips_store.specs.Sound.{IsSoundView, StepsHaveWidth};
 ghost use Rattle.whips_slot_index.specs.Slots.{all_steps};
-ghost use Rattle.whips_plain_store.specs.Plain.{changed_first, IsShortage};
+ghost use Rattle.whips_plain_store.specs.Plain.{changed_first, IsFirstChange, IsShortage};
 
 use crate::change::{index_after, index_for, keys_of, slot_of};
 use crate::need::{put_rows, put_versions};
@@ -313,6 +313,29 @@ impl PlainView {
         read_slot(&self.records, i, v, n, self.current.schema(), into)
     }
 
+    /// The first change that is left, behind the slot in which `change_next` will make it: the one that shows its key at
+    /// a version in use, or for a new key the first free slot. It costs by the change, and not by the slots.
+    pub fn next_change(&self, phase: u64, n: u32) -> Option<(usize, &Change)>
+        requires least { 2 ≤ n }
+        requires most { n ≤ 4 }
+        requires phase { phase < 2 ^ 63 }
+        requires sound { IsSoundView n phase self.now }
+        ensures { MatchOption result (self.now.left ≡ [])
+            (λ next. IsFirstChange n (phase / 2) self.now next.0 next.1.now) }
+    {
+        let change = self.left.last()?;
+        let slot = slot_of(
+            &self.index,
+            self.current.schema(),
+            &self.records,
+            change,
+            self.keys.last(),
+            n,
+            phase / 2,
+        )?;
+        Some((slot, change))
+    }
+
     /// Makes the first change that is left, in the slot that shows its key at a version in use, or
     /// for a new key in the first free slot. The phase is the store's, and `n` versions are kept.
     pub fn change_next(&mut self, phase: u64, n: u32)
@@ -330,7 +353,7 @@ impl PlainView {
                 self.current.schema(),
                 &self.records,
                 &change,
-                &key,
+                key.as_ref(),
                 n,
                 c,
             );
